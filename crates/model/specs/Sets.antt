@@ -57,3 +57,16 @@ both l m b k = l b k || m b k
 -- every literal holds in s
 abbrev pub holds : Literals → Set → Bool
 holds l s = subset (l true) s && apart s (l false)
+
+-- the literals with one more: k, plain or with "not"
+abbrev pub plus : Literals → Bool → ℕ → Literals
+plus l true k = elim [ true ↦ with (l true) k | false ↦ l false ]
+plus l false k = elim [ true ↦ l true | false ↦ with (l false) k ]
+
+-- k stands among the literals, plain or with "not"
+abbrev pub names : Literals → ℕ → Bool
+names l k = l true k || l false k
+
+-- every literal names a number below n
+abbrev pub within : ℕ → Literals → Bool
+within n l = subset (l true) (below n) && subset (l false) (below n)

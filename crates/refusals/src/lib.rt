@@ -43,6 +43,17 @@ pub enum Layer {
 }
 
 impl Question {
+    // The refusal by this question at a place.
+    pub fn at(self, place: usize) -> Refusal
+        ensures question { λ r. ⌜ r .question ≡ self ⌝ }
+        ensures place { λ r. ⌜ r .place ≡ place ⌝ }
+    {
+        Refusal {
+            question: self,
+            place,
+        }
+    }
+
     pub fn number(self) -> u8
         ensures { λ r. ⌜ r ≡ number-of self ⌝ }
     {

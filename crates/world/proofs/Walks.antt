@@ -5,10 +5,7 @@ use mathlib.Core.List.{List, [], _∷_, _++_}
 use Prim.Native.Nat.{ℕ, zero, suc, _+_, _<_, _≤_}
 use native.Mathlib.Omega.{arith}
 use lib.ListN.{length, take, drop, getD}
-use borrow.Author.Tests.{clash}
 use lib.Seq.{drop-cons, take-all}
-use Rattle.std.specs.Orderings.{Decides}
-use Rattle.std.specs.Results.{isOk}
 use Rattle.std.proofs.shelf.Lists.{take-more}
 use Rattle.std.specs.declared.result.Result.{Result}
 use Rattle.std.specs.declared.result.Result.the-variants.{Ok, Err}
@@ -81,15 +78,9 @@ module _ {S A : Type 0} (next : S → A → Result S Question) where
       let same : l .0 ≡ h .0 = cc in
       first-leads (h .0) xs i e t (h .2) (subst (λ v. Leads next v xs t) same (l .2))
 
-  -- a list that is refused somewhere leads nowhere, and nor does a longer one
+  -- a list that is refused somewhere leads nowhere
   pub stops-leads : (s : S) (xs : List A) (f : Refusal) (t : S) → Stops next s xs f → Leads next s xs t → ⊥
   stops-leads s xs f t h l = first-leads s xs (f .place) (f .question) t (first s xs (f .place) (f .question) h) l
-
-  pub leads-front : (s : S) (xs ys : List A) (t : S) → Leads next s (xs ++ ys) t → (u : S) × Leads next s xs u
-  leads-front s [] ys t l = (s, refl)
-  leads-front s (x ∷ xs) ys t l =
-      let rest = leads-front (l .0) xs ys t (l .2) in
-      (rest .0, (l .0, l .1, rest .1))
 
   module _ (ends : S → Result (Unit {0}) Question) (s : S) (xs : List A) where
     solves-fails : (f : Refusal) → Solves next ends s xs → Fails next ends s xs f → ⊥
@@ -127,8 +118,3 @@ module _ {S A : Type 0} (next : S → A → Result S Question) where
       refused = λ g e. let same : f ≡ g = cc in subst (λ x. Fails next ends s xs x) same h;
       refuses = λ g k. ap Err (fails-same f g h k);
     }
-
-    -- is_ok of the answer says whether the list solves
-    pub solves-decided : (r : Result (Unit {0}) Refusal) → Judged next ends s xs r → Decides (isOk r) (Solves next ends s xs)
-    solves-decided (Ok u) j = (λ _. j .accepted refl, λ _. refl)
-    solves-decided (Err f) j = (λ e. absurd (clash e), λ h. absurd (ok-err _ _ _ (j .accepts h) refl))

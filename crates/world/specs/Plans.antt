@@ -26,16 +26,18 @@ module _ {S A : Type 0} (next : S → A → Result S Question) where
   Performs s a (Ok _) t = next s a ≡ Ok t
   Performs s a (Err e) t = (next s a ≡ Err e) × (t ≡ s)
 
-  -- what a run of the list answers
-  abbrev pub Ran : S → List A → Result S Refusal → Type 0
-  Ran s xs (Ok t) = Leads s xs t
-  Ran s xs (Err f) = Stops s xs f
+  -- what a run of the list answers, in the state T, of which `model` tells
+  abbrev pub Ran : {T : Type 0} → (T → S) → S → List A → Result T Refusal → Type 0
+  Ran model s xs (Ok t) = Leads s xs (model t)
+  Ran model s xs (Err f) = Stops s xs f
 
-  -- ends: what is missing at the end, if anything
+  -- ends: whether the state after the last step will do
   module _ (ends : S → Result (Unit {0}) Question) where
+    -- the list leads to a state that will do
     abbrev pub Solves : S → List A → Type 0
     Solves s xs = (t : S) × Leads s xs t × (ends t ≡ Ok tt)
 
+    -- a step of the list is refused as f says, or the state after the last is, at the count of steps
     abbrev pub Fails : S → List A → Refusal → Type 0
     Fails s xs f = Stops s xs f ⊎ ((t : S) × Leads s xs t × (ends t ≡ Err (f .question)) × (f .place ≡ length xs))
 

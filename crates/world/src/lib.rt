@@ -7,37 +7,38 @@ ghost use Rattle.world.specs.Plans.{Performs, Ran, Judged};
 use refusals::Question;
 use refusals::Refusal;
 
-// A transition system: where it begins, and which step leads where.
-pub trait Transitions {
+// The rules speak of a model of the state, so that they need not know how the state is kept.
+pub trait World {
     type Step;
 
     type State: Drop;
 
-    ghost begins: { Self → Self·State };
+    ghost Model: { Type 0 };
 
-    // the state that a step leads to, or the question that it is refused by
-    ghost leads: { Self → Self·State → Self·Step → Result Self·State Question };
+    ghost model: { Self·State → Model };
+
+    ghost begins: { Self → Model };
+
+    // what a step leads to, or the question that it is refused by
+    ghost leads: { Self → Model → Self·Step → Result Model Question };
+
+    // whether the state after the last step will do, or the question that it is refused by
+    ghost ends: { Self → Model → Result (Unit {0}) Question };
 
     fn start(&self) -> Self::State
-        ensures { λ r. ⌜ r ≡ begins (now (self .entry)) ⌝ };
+        ensures { λ r. ⌜ model r ≡ begins (now (self .entry)) ⌝ };
 
     // A refused step leaves the state as it stood.
     fn perform(&self, state: &mut Self::State, step: &Self::Step) -> Result<(), Question>
-        ensures { λ r. ⌜ Performs (leads (now (self .entry))) (now (state .entry)) (now (step .entry)) r (now (state .exit)) ⌝ };
-}
-
-// A transition system with a goal.
-pub trait World: Transitions {
-    // what is asked of the state after the last step
-    ghost ends: { Self → Self·State → Result (Unit {0}) Question };
+        ensures { λ r. ⌜ Performs (leads (now (self .entry))) (model (now (state .entry))) (now (step .entry)) r (model (now (state .exit))) ⌝ };
 
     fn goal(&self, state: &Self::State) -> Result<(), Question>
-        ensures { λ r. ⌜ r ≡ ends (now (self .entry)) (now (state .entry)) ⌝ };
+        ensures { λ r. ⌜ r ≡ ends (now (self .entry)) (model (now (state .entry))) ⌝ };
 }
 
 // The state after all steps, or the first refused step.
-pub fn run<W: Transitions>(world: &W, steps: &[W::Step]) -> Result<W::State, Refusal>
-    ensures { λ r. ⌜ Ran (leads (now (world .entry))) (begins (now (world .entry))) (now (steps .entry)) r ⌝ }
+pub fn run<W: World>(world: &W, steps: &[W::Step]) -> Result<W::State, Refusal>
+    ensures { λ r. ⌜ Ran (leads (now (world .entry))) model (begins (now (world .entry))) (now (steps .entry)) r ⌝ }
 {
     let mut state = world.start();
     for (i, step) in steps.iter().enumerate() {
@@ -50,7 +51,7 @@ pub fn run<W: Transitions>(world: &W, steps: &[W::Step]) -> Result<W::State, Ref
 
 // Do the steps, each performed where it is reached, lead to the goal?
 pub fn judge<W: World>(world: &W, steps: &[W::Step]) -> Result<(), Refusal>
-    ensures { λ r. ⌜ Judged (W·Transitions .leads (now (world .entry))) (ends (now (world .entry))) (W·Transitions .begins (now (world .entry))) (now (steps .entry)) r ⌝ }
+    ensures { λ r. ⌜ Judged (leads (now (world .entry))) (ends (now (world .entry))) (begins (now (world .entry))) (now (steps .entry)) r ⌝ }
 {
     let state = run(world, steps)?;
     match world.goal(&state) {

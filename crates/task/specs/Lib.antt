@@ -1,0 +1,5 @@
+pub mod Lists
+pub mod Commands
+pub mod Parts
+pub mod Views
+pub mod Form
