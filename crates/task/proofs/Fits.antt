@@ -1,17 +1,26 @@
 -- Numbers stay within the sizes as lists grow. Assumes nothing.
-use mathlib.Core.Path.{_≡_, refl, sym, ap, ap₂, _∙_}
+use mathlib.Core.Path.{_≡_, refl, sym, subst}
 use mathlib.Core.Bool.{Bool, true, false, cond, _&&_}
 use mathlib.Core.List.{List, [], _∷_, _++_, map}
 use Prim.Native.Nat.{ℕ, zero, suc, _+_, _<_, _≤_}
 use native.Mathlib.Omega.{arith}
-use lib.Dec.{ltb, eqb}
+use lib.Dec.{ltb, leb, eqb}
+use lib.ListN.{length}
 use Rattle.std.specs.Of.Vec.{vec-items}
+use Rattle.std.specs.declared.result.Result.{Result}
+use Rattle.std.specs.declared.result.Result.the-variants.{Ok, Err}
 use Rattle.std.proofs.shelf.Tests.{and-parts, and-from, ltb-true, lt-ltb, eqb-true}
 use Rattle.std.proofs.shelf.Ways.{tells}
-use Rattle.model.specs.Sets.{Set, Literals, none, with, below, subset, no-literals, plus, within}
-use Rattle.model.specs.Task.{effects-fit, effect-fits, moves-fit, move-fits}
+use Rattle.model.specs.Sets.{Set, Literals, none, with, below, subset, no-literals, plus, names, within}
+use Rattle.model.specs.Task as model
+use Rattle.model.specs.Task.{no-effect, effects-fit, effect-fits, moves-fit, move-fits}
 use Rattle.sets.proofs.Laws.{decides-subset}
+use Rattle.task.specs.Lists.{literals-of, added, numbered}
 use Rattle.task.specs.Parts.{effect-of, move-of}
+use Rattle.task.specs.Form.{move-stands}
+use Rattle.task.specs.declared.lists.Literal.{Literal}
+use Rattle.task.specs.declared.lists.Literals as code
+use Rattle.refusals.specs.declared.Refusal.{Refusal}
 use Rattle.task.specs.declared.parts.Effect.{Effect}
 use Rattle.task.specs.declared.parts.Move.{Move}
 
@@ -47,3 +56,60 @@ moves-push n f m [] v h g = and-from _ _ g refl
 moves-push n f m (x ∷ xs) v h g =
     let p = and-parts (move-fits n f m (move-of x)) (moves-fit n f m (map move-of xs)) h in
     and-from _ _ (p .0) (moves-push n f m xs v (p .1) g)
+
+-- what is accepted passed both questions
+accepted : {T : Type 0} (a b : Bool) (q q′ : Refusal) (r v : T) → _≡_ {A = Result T Refusal} (Ok r) (cond a (cond b (Err q) (Ok v)) (Err q′)) → (a ≡ true) × (r ≡ v)
+accepted true true q q′ r v e = absurd (let z : _≡_ {A = ℕ} 0 1 = cc in omega arith)
+accepted true false q q′ r v e = (refl, cc)
+accepted false b q q′ r v e = absurd (let z : _≡_ {A = ℕ} 0 1 = cc in omega arith)
+
+-- what an accepted literal or number leaves is within the size
+pub added-within : (l : Literals) (x : Literal) (n p : ℕ) (r : code.Literals) → within n l ≡ true → Ok (literals-of r) ≡ added l x n p → within n (literals-of r) ≡ true
+added-within l x n p r h e =
+    let t = accepted (ltb (x .number) n) (names l (x .number)) _ _ (literals-of r) _ e in
+    subst (λ (y : Literals). within n y ≡ true) (sym (t .1)) (within-plus n l (x .plain) (x .number) h (ltb-true (x .number) n (t .0)))
+
+pub numbered-within : (s : Set) (k n p : ℕ) (r : Set) → subset s (below n) ≡ true → Ok r ≡ numbered s k n p → subset r (below n) ≡ true
+numbered-within s k n p r h e =
+    let t = accepted (ltb k n) (s k) _ _ r _ e in
+    subst (λ (y : Set). subset y (below n) ≡ true) (sym (t .1)) (subset-with s n k h (ltb-true k n (t .0)))
+
+-- a move that has just begun, and one that gains a literal
+pub new-stands : (n f m s : ℕ) (p q : Literals) (es : List Effect) → s < n → p ≡ no-literals → q ≡ no-literals → es ≡ []
+    → move-stands n f m (record { station = s; needs = p; companions = q; effects = map effect-of es }) ≡ true
+new-stands n f m s p q es h e g z = rw (e, g, z, lt-ltb s n h, within-none f, within-none m) refl
+
+module _ (n f m : ℕ) (v : Move) (h : move-stands n f m (move-of v) ≡ true) (x : Literal) (p : ℕ) (r : code.Literals) where
+  abbrev rest : Bool
+  rest = leb (length (move-of v .effects)) 8 && effects-fit f m (move-of v .effects)
+
+  abbrev few : Bool
+  few = ltb (length (move-of v .effects)) 8
+
+  pub need-stands : Ok (literals-of r) ≡ added (literals-of (v .needs)) x f p
+      → move-stands n f m (move-of (record { station = v .station; needs = r; companions = v .companions; effects = v .effects })) ≡ true
+  need-stands e =
+      swap (ltb (v .station) n) (within f (literals-of (v .needs))) (within f (literals-of r)) (within m (literals-of (v .companions))) rest few h
+      (λ y. added-within (literals-of (v .needs)) x f p r y e)
+    where
+      swap : (a b b′ c d e : Bool) → (((a && (b && c)) && d) && e) ≡ true → (b ≡ true → b′ ≡ true) → (((a && (b′ && c)) && d) && e) ≡ true
+      swap a b b′ c d e h g = grind (arith, g)
+
+  pub companion-stands : Ok (literals-of r) ≡ added (literals-of (v .companions)) x m p
+      → move-stands n f m (move-of (record { station = v .station; needs = v .needs; companions = r; effects = v .effects })) ≡ true
+  companion-stands e =
+      swap (ltb (v .station) n) (within f (literals-of (v .needs))) (within m (literals-of (v .companions))) (within m (literals-of r)) rest few h
+      (λ y. added-within (literals-of (v .companions)) x m p r y e)
+    where
+      swap : (a b c c′ d e : Bool) → (((a && (b && c)) && d) && e) ≡ true → (c ≡ true → c′ ≡ true) → (((a && (b && c′)) && d) && e) ≡ true
+      swap a b c c′ d e h g = grind (arith, g)
+
+-- an effect that has just begun
+pub no-effect-fits : (f m : ℕ) (e : Effect) → effect-of e ≡ no-effect → effect-fits f m (effect-of e) ≡ true
+no-effect-fits f m e h = subst (λ (x : model.Effect). effect-fits f m x ≡ true) (sym h) (rw (within-none f, within-none m) refl)
+
+-- a move that is complete joins the others, if there is memory for it
+pub moves-pushed : (n f m : ℕ) (vs vs′ : List Move) (v : Move) (b : Bool) → moves-fit n f m (map move-of vs) ≡ true → move-fits n f m (move-of v) ≡ true
+    → vs′ ≡ cond b (vs ++ (v ∷ [])) vs → moves-fit n f m (map move-of vs′) ≡ true
+moves-pushed n f m vs vs′ v true h g e = subst (λ (xs : List Move). moves-fit n f m (map move-of xs) ≡ true) (sym e) (moves-push n f m vs v h g)
+moves-pushed n f m vs vs′ v false h g e = subst (λ (xs : List Move). moves-fit n f m (map move-of xs) ≡ true) (sym e) h

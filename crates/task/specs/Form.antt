@@ -1,10 +1,10 @@
 -- What holds while a task file is read. Assumes nothing.
 use mathlib.Core.Path.{_≡_}
 use mathlib.Core.Bool.{Bool, true, _&&_}
-use mathlib.Core.List.{map}
-use Prim.Native.Nat.{ℕ, _≤_}
+use Prim.Native.Nat.{ℕ}
 use lib.Dec.{ltb, eqb}
-use Rattle.std.specs.Of.Vec.{vec-len, vec-items}
+use lib.ListN.{length}
+use Rattle.std.specs.Of.Vec.{vec-len}
 use Rattle.std.specs.declared.result.Result.{Result}
 use Rattle.std.specs.declared.result.Result.the-variants.{Ok, Err}
 use Rattle.refusals.specs.Numbers.{layer-of}
@@ -12,10 +12,9 @@ use Rattle.refusals.specs.declared.Layer.the-variants as layer
 use Rattle.refusals.specs.declared.Refusal.{Refusal}
 use Rattle.refusals.specs.declared.Fault.{Fault}
 use Rattle.refusals.specs.declared.Fault.the-variants.{Refused, Memory}
+use Rattle.model.specs.Task as model
 use Rattle.model.specs.Task.{effect-fits, move-fits}
 use Rattle.task.specs.Parts.{effect-of, move-of}
-use Rattle.task.specs.declared.parts.Effect.{Effect}
-use Rattle.task.specs.declared.parts.Move.{Move}
 use Rattle.task.specs.declared.task.Lists as code
 use Rattle.task.specs.declared.form.Part as parts
 use Rattle.task.specs.declared.form.Part.the-variants as P
@@ -29,18 +28,17 @@ abbrev pub Blamed : ℕ → Fault → Type 0
 Blamed p (Refused e) = (layer-of (e .question) ≡ layer.Form) × (e .place ≡ p)
 Blamed p Memory = Unit {0}
 
--- an effect or a move that is not complete yet is within the sizes; the move has room for one effect more
-abbrev pub effect-stands : (f m : ℕ) → Effect → Bool
-effect-stands f m e = effect-fits f m (effect-of e)
-
-abbrev pub move-stands : (n f m : ℕ) → Move → Bool
-move-stands n f m v = move-fits n f m (move-of v) && ltb (vec-len (v .effects)) 8
+-- a move that is not complete yet is within the sizes and has room for one effect more
+abbrev pub move-stands : (n f m : ℕ) → model.Move → Bool
+move-stands n f m v = move-fits n f m v && ltb (length (v .effects)) 8
 
 -- what is not complete yet is within the sizes; at the end all moves are there
 abbrev pub stands : code.Lists → parts.Part → Bool
 stands l P.Lists = true
-stands l (P.Move v) = move-stands (l .sizes .stations) (l .sizes .fluents) (l .sizes .moves) v
-stands l (P.Effect v e) = move-stands (l .sizes .stations) (l .sizes .fluents) (l .sizes .moves) v && effect-stands (l .sizes .fluents) (l .sizes .moves) e
+stands l (P.Move v) = move-stands (l .sizes .stations) (l .sizes .fluents) (l .sizes .moves) (move-of v)
+stands l (P.Effect v e) =
+    move-stands (l .sizes .stations) (l .sizes .fluents) (l .sizes .moves) (move-of v)
+    && effect-fits (l .sizes .fluents) (l .sizes .moves) (effect-of e)
 stands l P.Ended = eqb (vec-len (l .moves)) (l .sizes .moves)
 
 -- what taking one command at the place p answers

@@ -8,7 +8,7 @@ use Rattle.refusals.specs.declared.Question.the-variants.{Range, New}
 use Rattle.refusals.specs.declared.Refusal.{Refusal}
 use Rattle.refusals.specs.Answers.{refused}
 use Rattle.model.specs.Sets as model
-use Rattle.model.specs.Sets.{plus, names}
+use Rattle.model.specs.Sets.{Set, with, plus, names}
 use Rattle.sets.specs.Members.{members}
 use Rattle.task.specs.declared.lists.Literal.{Literal}
 use Rattle.task.specs.declared.lists.Literals.{Literals}
@@ -21,3 +21,7 @@ literals-of l false = members (l .negated)
 abbrev pub added : model.Literals → Literal → (n p : ℕ) → Result model.Literals Refusal
 added l x n p =
     cond (ltb (x .number) n) (cond (names l (x .number)) (refused New p) (Ok (plus l (x .plain) (x .number)))) (refused Range p)
+
+-- the numbers with k, if it is below n and new among them
+abbrev pub numbered : Set → (k n p : ℕ) → Result Set Refusal
+numbered s k n p = cond (ltb k n) (cond (s k) (refused New p) (Ok (with s k))) (refused Range p)

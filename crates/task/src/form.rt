@@ -3,9 +3,12 @@ ghost use mathlib.Core.Path.{_≡_};
 ghost use mathlib.Core.Bool.{true};
 ghost use Prim.Native.Nat.{ℕ, _≤_, _<_};
 ghost use Rattle.std.specs.Results.{Cases};
-ghost use Rattle.model.specs.Task.{no-effect};
-ghost use Rattle.task.specs.Parts.{effect-of};
-ghost use Rattle.task.specs.Form.{Taken, stands, effect-stands, move-stands, Asked};
+ghost use Rattle.model.specs.Task.{no-effect, move-fits};
+ghost use Rattle.refusals.specs.Answers.{seen};
+ghost use Rattle.sets.specs.Members.{members};
+ghost use Rattle.task.specs.Lists.{numbered};
+ghost use Rattle.task.specs.Parts.{effect-of, move-of};
+ghost use Rattle.task.specs.Form.{Taken, stands, Asked};
 use crate::command::Command;
 use crate::lists::Literals;
 use crate::parts::Effect;
@@ -55,6 +58,117 @@ impl Effect {
             conditions: Literals::empty(),
             alongside: Literals::empty(),
             results: Literals::empty(),
+        }
+    }
+}
+
+// The numbers with one more, which is below `bound` and new among them.
+fn with_number(set: IndexSet, k: u8, bound: u8, place: usize) -> Result<IndexSet, Refusal>
+    requires { ⌜ bound ≤ 128 ⌝ }
+    ensures { λ r. ⌜ seen members r ≡ numbered (members set) k bound place ⌝ }
+{
+    if k >= bound {
+        return Err(Question::Range.at(place));
+    }
+    if set.contains(k) {
+        return Err(Question::New.at(place));
+    }
+    Ok(set.insert(k))
+}
+
+impl Lists {
+    // A new move at MOVE, unless the last one was there already.
+    fn begin(&self, heap: Global, station: u8, place: usize) -> Result<Part, Fault>
+        ensures { λ r. ⌜ Taken place (now (self .entry)) r ⌝ }
+    {
+        if self.moves.len() >= self.sizes.moves as usize {
+            return Err(Fault::Refused(Question::Order.at(place)));
+        }
+        if station >= self.sizes.stations {
+            return Err(Fault::Refused(Question::Range.at(place)));
+        }
+        Ok(Part::Move(Move {
+            station,
+            needs: Literals::empty(),
+            companions: Literals::empty(),
+            effects: Vec::new(heap),
+        }))
+    }
+
+    // END, once all moves are there.
+    fn end(&self, place: usize) -> Result<Part, Fault>
+        ensures { λ r. ⌜ Taken place (now (self .entry)) r ⌝ }
+    {
+        if self.moves.len() != self.sizes.moves as usize {
+            return Err(Fault::Refused(Question::Order.at(place)));
+        }
+        Ok(Part::Ended)
+    }
+
+    // A command before the first move.
+    fn in_lists(&mut self, heap: Global, command: Command, place: usize) -> Result<Part, Fault>
+        ensures sizes { λ _. ⌜ now (self .exit) .sizes ≡ now (self .entry) .sizes ⌝ }
+        ensures taken { λ r. ⌜ Taken place (now (self .exit)) r ⌝ }
+    {
+        let fluents = self.sizes.fluents;
+        match command {
+            Command::Start(k) => {
+                self.start = with_number(self.start, k, fluents, place)?;
+                Ok(Part::Lists)
+            }
+            Command::Goal(literal) => {
+                self.goal = self.goal.add(literal, fluents, place)?;
+                Ok(Part::Lists)
+            }
+            Command::Move(station) => self.begin(heap, station, place),
+            Command::End => self.end(place),
+            _ => Err(Fault::Refused(Question::Order.at(place))),
+        }
+    }
+}
+
+impl Lists {
+    // A move that is complete joins the others.
+    fn complete(&mut self, current: Move) -> Result<(), Fault>
+        requires { ⌜ move-fits (now self .sizes .stations) (now self .sizes .fluents) (now self .sizes .moves) (move-of current) ≡ true ⌝ }
+        ensures sizes { λ _. ⌜ now (self .exit) .sizes ≡ now (self .entry) .sizes ⌝ }
+        ensures memory { λ r. ⌜ Cases r (λ _. Unit {0}) (λ e. e ≡ Fault.Memory) ⌝ }
+    {
+        self.moves.push(current)?;
+        Ok(())
+    }
+
+    // A command in a move, before its first effect.
+    fn in_move(
+        &mut self,
+        heap: Global,
+        mut current: Move,
+        command: Command,
+        place: usize,
+    ) -> Result<Part, Fault>
+        requires { ⌜ stands (now self) (Part.Move current) ≡ true ⌝ }
+        ensures sizes { λ _. ⌜ now (self .exit) .sizes ≡ now (self .entry) .sizes ⌝ }
+        ensures taken { λ r. ⌜ Taken place (now (self .exit)) r ⌝ }
+    {
+        match command {
+            Command::Need(literal) => {
+                current.needs = current.needs.add(literal, self.sizes.fluents, place)?;
+                Ok(Part::Move(current))
+            }
+            Command::With(literal) => {
+                current.companions = current.companions.add(literal, self.sizes.moves, place)?;
+                Ok(Part::Move(current))
+            }
+            Command::Effect => Ok(Part::Effect(current, Effect::empty())),
+            Command::Move(station) => {
+                self.complete(current)?;
+                self.begin(heap, station, place)
+            }
+            Command::End => {
+                self.complete(current)?;
+                self.end(place)
+            }
+            _ => Err(Fault::Refused(Question::Order.at(place))),
         }
     }
 }
