@@ -1,5 +1,5 @@
 -- Numbers stay within the sizes as lists grow. Assumes nothing.
-use mathlib.Core.Path.{_≡_, refl, sym, subst}
+use mathlib.Core.Path.{_≡_, refl, sym, ap, subst}
 use mathlib.Core.Bool.{Bool, true, false, cond, _&&_}
 use mathlib.Core.List.{List, [], _∷_, _++_, map}
 use Prim.Native.Nat.{ℕ, zero, suc, _+_, _<_, _≤_}
@@ -9,7 +9,7 @@ use lib.ListN.{length}
 use Rattle.std.specs.Of.Vec.{vec-items}
 use Rattle.std.specs.declared.result.Result.{Result}
 use Rattle.std.specs.declared.result.Result.the-variants.{Ok, Err}
-use Rattle.std.proofs.shelf.Tests.{and-parts, and-from, ltb-true, lt-ltb, eqb-true}
+use Rattle.std.proofs.shelf.Tests.{and-parts, and-from, ltb-true, lt-ltb, le-leb}
 use Rattle.std.proofs.shelf.Ways.{tells}
 use Rattle.model.specs.Sets.{Set, Literals, none, with, below, subset, no-literals, plus, names, within}
 use Rattle.model.specs.Task as model
@@ -107,6 +107,53 @@ module _ (n f m : ℕ) (v : Move) (h : move-stands n f m (move-of v) ≡ true) (
 -- an effect that has just begun
 pub no-effect-fits : (f m : ℕ) (e : Effect) → effect-of e ≡ no-effect → effect-fits f m (effect-of e) ≡ true
 no-effect-fits f m e h = subst (λ (x : model.Effect). effect-fits f m x ≡ true) (sym h) (rw (within-none f, within-none m) refl)
+
+-- an effect that gains a literal
+module _ (f m : ℕ) (e : Effect) (h : effect-fits f m (effect-of e) ≡ true) (x : Literal) (p : ℕ) (r : code.Literals) where
+  abbrev asked : Bool
+  asked = within f (literals-of (e .conditions))
+
+  abbrev beside : Bool
+  beside = within m (literals-of (e .alongside))
+
+  abbrev done : Bool
+  done = within f (literals-of (e .results))
+
+  pub condition-fits : Ok (literals-of r) ≡ added (literals-of (e .conditions)) x f p → (within f (literals-of r) && (beside && done)) ≡ true
+  condition-fits t =
+      let q = and-parts asked (beside && done) h in
+      and-from _ _ (added-within (literals-of (e .conditions)) x f p r (q .0) t) (q .1)
+
+  pub alongside-fits : Ok (literals-of r) ≡ added (literals-of (e .alongside)) x m p → (asked && (within m (literals-of r) && done)) ≡ true
+  alongside-fits t =
+      let q = and-parts asked (beside && done) h in
+      let u = and-parts beside done (q .1) in
+      and-from _ _ (q .0) (and-from _ _ (added-within (literals-of (e .alongside)) x m p r (u .0) t) (u .1))
+
+  pub result-fits : Ok (literals-of r) ≡ added (literals-of (e .results)) x f p → (asked && (beside && within f (literals-of r))) ≡ true
+  result-fits t =
+      let q = and-parts asked (beside && done) h in
+      let u = and-parts beside done (q .1) in
+      and-from _ _ (q .0) (and-from _ _ (u .0) (added-within (literals-of (e .results)) x f p r (u .1) t))
+
+-- a move that gains an effect still fits
+pub grown-fits : (n f m : ℕ) (v w : Move) (e : Effect) → move-stands n f m (move-of v) ≡ true → effect-fits f m (effect-of e) ≡ true
+    → w .station ≡ v .station → w .needs ≡ v .needs → w .companions ≡ v .companions → vec-items (w .effects) ≡ vec-items (v .effects) ++ (e ∷ [])
+    → move-fits n f m (move-of w) ≡ true
+grown-fits n f m v w e h g s p q es =
+    let same : move-of w ≡ record { station = v .station; needs = literals-of (v .needs); companions = literals-of (v .companions); effects = map effect-of (vec-items (v .effects) ++ (e ∷ [])) } =
+      λ i. record { station = s i; needs = literals-of (p i); companions = literals-of (q i); effects = map effect-of (es i) } in
+    let parts = and-parts (move-fits n f m (move-of v)) (ltb (length (move-of v .effects)) 8) h in
+    let low = ltb-true (length (move-of v .effects)) 8 (parts .1) in
+    let more : length (map effect-of (vec-items (v .effects) ++ (e ∷ []))) ≡ suc (length (move-of v .effects)) = pushed-length (vec-items (v .effects)) e in
+    let both = and-parts (ltb (v .station) n && (within f (literals-of (v .needs)) && within m (literals-of (v .companions)))) (leb (length (move-of v .effects)) 8 && effects-fit f m (move-of v .effects)) (parts .0) in
+    let mine = and-parts (leb (length (move-of v .effects)) 8) (effects-fit f m (move-of v .effects)) (both .1) in
+    subst (λ (x : model.Move). move-fits n f m x ≡ true) (sym same)
+    (and-from _ _ (both .0) (and-from _ _ (le-leb _ 8 (omega (arith, more))) (effects-push f m (vec-items (v .effects)) e (mine .1) g)))
+  where
+    pushed-length : (es : List Effect) (e : Effect) → length (map effect-of (es ++ (e ∷ []))) ≡ suc (length (map effect-of es))
+    pushed-length [] e = refl
+    pushed-length (x ∷ xs) e = ap suc (pushed-length xs e)
 
 -- a move that is complete joins the others, if there is memory for it
 pub moves-pushed : (n f m : ℕ) (vs vs′ : List Move) (v : Move) (b : Bool) → moves-fit n f m (map move-of vs) ≡ true → move-fits n f m (move-of v) ≡ true

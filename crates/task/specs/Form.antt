@@ -1,10 +1,11 @@
 -- What holds while a task file is read. Assumes nothing.
 use mathlib.Core.Path.{_≡_}
 use mathlib.Core.Bool.{Bool, true, _&&_}
+use mathlib.Core.List.{[], _∷_, _++_}
 use Prim.Native.Nat.{ℕ}
 use lib.Dec.{ltb, eqb}
 use lib.ListN.{length}
-use Rattle.std.specs.Of.Vec.{vec-len}
+use Rattle.std.specs.Of.Vec.{vec-len, vec-items}
 use Rattle.std.specs.declared.result.Result.{Result}
 use Rattle.std.specs.declared.result.Result.the-variants.{Ok, Err}
 use Rattle.refusals.specs.Numbers.{layer-of}
@@ -15,6 +16,8 @@ use Rattle.refusals.specs.declared.Fault.the-variants.{Refused, Memory}
 use Rattle.model.specs.Task as model
 use Rattle.model.specs.Task.{effect-fits, move-fits}
 use Rattle.task.specs.Parts.{effect-of, move-of}
+use Rattle.task.specs.declared.parts.Effect.{Effect}
+use Rattle.task.specs.declared.parts.Move.{Move}
 use Rattle.task.specs.declared.task.Lists as code
 use Rattle.task.specs.declared.form.Part as parts
 use Rattle.task.specs.declared.form.Part.the-variants as P
@@ -45,3 +48,9 @@ stands l P.Ended = eqb (vec-len (l .moves)) (l .sizes .moves)
 abbrev pub Taken : ℕ → code.Lists → Result parts.Part Fault → Type 0
 Taken p l (Ok x) = stands l x ≡ true
 Taken p l (Err e) = Blamed p e
+
+-- the move with one effect more, or want of memory
+abbrev pub Grown : Move → Effect → Result Move Fault → Type 0
+Grown v e (Ok w) =
+    (w .station ≡ v .station) × (w .needs ≡ v .needs) × (w .companions ≡ v .companions) × (vec-items (w .effects) ≡ vec-items (v .effects) ++ (e ∷ []))
+Grown v e (Err why) = why ≡ Memory

@@ -3,12 +3,14 @@ ghost use mathlib.Core.Path.{_≡_};
 ghost use mathlib.Core.Bool.{true};
 ghost use Prim.Native.Nat.{ℕ, _≤_, _<_};
 ghost use Rattle.std.specs.Results.{Cases};
-ghost use Rattle.model.specs.Task.{no-effect, move-fits};
+ghost use Rattle.std.specs.Vec.{made};
+ghost use Rattle.std.specs.Of.Vec.{vec-len};
+ghost use Rattle.model.specs.Task.{no-effect, effect-fits, move-fits};
 ghost use Rattle.refusals.specs.Answers.{seen};
 ghost use Rattle.sets.specs.Members.{members};
 ghost use Rattle.task.specs.Lists.{numbered};
 ghost use Rattle.task.specs.Parts.{effect-of, move-of};
-ghost use Rattle.task.specs.Form.{Taken, stands, Asked};
+ghost use Rattle.task.specs.Form.{Taken, stands, Asked, Grown};
 use crate::command::Command;
 use crate::lists::Literals;
 use crate::parts::Effect;
@@ -170,5 +172,45 @@ impl Lists {
             }
             _ => Err(Fault::Refused(Question::Order.at(place))),
         }
+    }
+}
+
+impl Effect {
+    // One of the effect's own commands: a condition, a move condition or a result.
+    fn extended(
+        self,
+        sizes: Sizes,
+        command: Command,
+        place: usize,
+    ) -> Result<Effect, Refusal>
+        requires { ⌜ effect-fits (sizes .fluents) (sizes .moves) (effect-of self) ≡ true ⌝ }
+        ensures fits { λ r. ⌜ made r (λ e. effect-fits (sizes .fluents) (sizes .moves) (effect-of e) ≡ true) ⌝ }
+        ensures asked { λ r. ⌜ Asked place r ⌝ }
+    {
+        let mut effect = self;
+        match command {
+            Command::If(literal) => {
+                effect.conditions = effect.conditions.add(literal, sizes.fluents, place)?;
+            }
+            Command::IfMove(literal) => {
+                effect.alongside = effect.alongside.add(literal, sizes.moves, place)?;
+            }
+            Command::Then(literal) => {
+                effect.results = effect.results.add(literal, sizes.fluents, place)?;
+            }
+            _ => return Err(Question::Order.at(place)),
+        }
+        Ok(effect)
+    }
+}
+
+impl Move {
+    // The move with one effect more, where it has room for one.
+    fn with_effect(mut self, effect: Effect) -> Result<Move, Fault>
+        requires { ⌜ vec-len (self .effects) < 8 ⌝ }
+        ensures { λ r. ⌜ Grown self effect r ⌝ }
+    {
+        self.effects.push(effect)?;
+        Ok(self)
     }
 }
