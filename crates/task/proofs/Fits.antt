@@ -1,12 +1,12 @@
 -- Numbers stay within the sizes as lists grow. Assumes nothing.
-use mathlib.Core.Path.{_≡_, refl, sym, ap, subst}
+use mathlib.Core.Path.{_≡_, refl, sym, ap, subst, _∙_}
 use mathlib.Core.Bool.{Bool, true, false, cond, _&&_}
 use mathlib.Core.List.{List, [], _∷_, _++_, map}
 use Prim.Native.Nat.{ℕ, zero, suc, _+_, _<_, _≤_}
 use native.Mathlib.Omega.{arith}
 use lib.Dec.{ltb, leb, eqb}
-use lib.ListN.{length}
-use Rattle.std.specs.Of.Vec.{vec-items}
+use lib.ListN.{length, length-map}
+use Rattle.std.specs.Of.Vec.{vec-items, vec-len}
 use Rattle.std.specs.declared.result.Result.{Result}
 use Rattle.std.specs.declared.result.Result.the-variants.{Ok, Err}
 use Rattle.std.proofs.shelf.Tests.{and-parts, and-from, ltb-true, lt-ltb, le-leb}
@@ -17,7 +17,7 @@ use Rattle.model.specs.Task.{no-effect, effects-fit, effect-fits, moves-fit, mo
 use Rattle.sets.proofs.Laws.{decides-subset}
 use Rattle.task.specs.Lists.{literals-of, added, numbered}
 use Rattle.task.specs.Parts.{effect-of, move-of}
-use Rattle.task.specs.Form.{move-stands}
+use Rattle.task.specs.Form.{move-stands, Grown}
 use Rattle.task.specs.declared.lists.Literal.{Literal}
 use Rattle.task.specs.declared.lists.Literals as code
 use Rattle.refusals.specs.declared.Refusal.{Refusal}
@@ -29,6 +29,16 @@ subset-none n = decides-subset none (below n) .1 (λ k l e. absurd (let z : _≡
 
 pub within-none : (n : ℕ) → within n no-literals ≡ true
 within-none n = and-from _ _ (subset-none n) (subset-none n)
+
+-- before anything is named
+pub empty-subset : (n : ℕ) (s : Set) → s ≡ none → subset s (below n) ≡ true
+empty-subset n s e = subst (λ (x : Set). subset x (below n) ≡ true) (sym e) (subset-none n)
+
+pub empty-within : (n : ℕ) (l : Literals) → l ≡ no-literals → within n l ≡ true
+empty-within n l e = subst (λ (x : Literals). within n x ≡ true) (sym e) (within-none n)
+
+pub empty-moves : (n f m : ℕ) (vs : List Move) → vs ≡ [] → moves-fit n f m (map move-of vs) ≡ true
+empty-moves n f m vs e = subst (λ (xs : List Move). moves-fit n f m (map move-of xs) ≡ true) (sym e) refl
 
 -- one number more
 pub subset-with : (p : Set) (n k : ℕ) → subset p (below n) ≡ true → k < n → subset (with p k) (below n) ≡ true
@@ -136,24 +146,49 @@ module _ (f m : ℕ) (e : Effect) (h : effect-fits f m (effect-of e) ≡ true) (
       let u = and-parts beside done (q .1) in
       and-from _ _ (q .0) (and-from _ _ (u .0) (added-within (literals-of (e .results)) x f p r (u .1) t))
 
--- a move that gains an effect still fits
-pub grown-fits : (n f m : ℕ) (v w : Move) (e : Effect) → move-stands n f m (move-of v) ≡ true → effect-fits f m (effect-of e) ≡ true
-    → w .station ≡ v .station → w .needs ≡ v .needs → w .companions ≡ v .companions → vec-items (w .effects) ≡ vec-items (v .effects) ++ (e ∷ [])
-    → move-fits n f m (move-of w) ≡ true
-grown-fits n f m v w e h g s p q es =
-    let same : move-of w ≡ record { station = v .station; needs = literals-of (v .needs); companions = literals-of (v .companions); effects = map effect-of (vec-items (v .effects) ++ (e ∷ [])) } =
-      λ i. record { station = s i; needs = literals-of (p i); companions = literals-of (q i); effects = map effect-of (es i) } in
-    let parts = and-parts (move-fits n f m (move-of v)) (ltb (length (move-of v .effects)) 8) h in
-    let low = ltb-true (length (move-of v .effects)) 8 (parts .1) in
-    let more : length (map effect-of (vec-items (v .effects) ++ (e ∷ []))) ≡ suc (length (move-of v .effects)) = pushed-length (vec-items (v .effects)) e in
-    let both = and-parts (ltb (v .station) n && (within f (literals-of (v .needs)) && within m (literals-of (v .companions)))) (leb (length (move-of v .effects)) 8 && effects-fit f m (move-of v .effects)) (parts .0) in
-    let mine = and-parts (leb (length (move-of v .effects)) 8) (effects-fit f m (move-of v .effects)) (both .1) in
-    subst (λ (x : model.Move). move-fits n f m x ≡ true) (sym same)
-    (and-from _ _ (both .0) (and-from _ _ (le-leb _ 8 (omega (arith, more))) (effects-push f m (vec-items (v .effects)) e (mine .1) g)))
-  where
-    pushed-length : (es : List Effect) (e : Effect) → length (map effect-of (es ++ (e ∷ []))) ≡ suc (length (map effect-of es))
-    pushed-length [] e = refl
-    pushed-length (x ∷ xs) e = ap suc (pushed-length xs e)
+-- a move that gains the effect that was not complete yet
+module _ (n f m : ℕ) (v : Move) (e : Effect) (h : (move-stands n f m (move-of v) && effect-fits f m (effect-of e)) ≡ true) where
+  abbrev placed : Bool
+  placed = ltb (v .station) n && (within f (literals-of (v .needs)) && within m (literals-of (v .companions)))
+
+  abbrev so-far : List model.Effect
+  so-far = move-of v .effects
+
+  now-fits : (move-stands n f m (move-of v) ≡ true) × (effect-fits f m (effect-of e) ≡ true)
+  now-fits = and-parts (move-stands n f m (move-of v)) (effect-fits f m (effect-of e)) h
+
+  pub effect-now-fits : effect-fits f m (effect-of e) ≡ true
+  effect-now-fits = now-fits .1
+
+  pub extended-stands : (e′ : Effect) → effect-fits f m (effect-of e′) ≡ true → (move-stands n f m (move-of v) && effect-fits f m (effect-of e′)) ≡ true
+  extended-stands e′ g = and-from _ _ (now-fits .0) g
+
+  module _ (w : Move) (g : Grown v e (Ok w)) where
+    longer : (es : List Effect) → length (map effect-of (es ++ (e ∷ []))) ≡ suc (length (map effect-of es))
+    longer [] = refl
+    longer (x ∷ xs) = ap suc (longer xs)
+
+    grown-length : length (move-of w .effects) ≡ suc (length so-far)
+    grown-length = ap (λ (es : List Effect). length (map effect-of es)) (g .3) ∙ longer (vec-items (v .effects))
+
+    pub grown-fits : move-fits n f m (move-of w) ≡ true
+    grown-fits =
+        let same : move-of w ≡ record { station = v .station; needs = literals-of (v .needs); companions = literals-of (v .companions); effects = map effect-of (vec-items (v .effects) ++ (e ∷ [])) } =
+          λ i. record { station = g .0 i; needs = literals-of (g .1 i); companions = literals-of (g .2 i); effects = map effect-of (g .3 i) } in
+        let parts = and-parts (move-fits n f m (move-of v)) (ltb (length so-far) 8) (now-fits .0) in
+        let both = and-parts placed (leb (length so-far) 8 && effects-fit f m so-far) (parts .0) in
+        let mine = and-parts (leb (length so-far) 8) (effects-fit f m so-far) (both .1) in
+        let few = ltb-true (length so-far) 8 (parts .1) in
+        let more = longer (vec-items (v .effects)) in
+        subst (λ (x : model.Move). move-fits n f m x ≡ true) (sym same)
+        (and-from _ _ (both .0) (and-from _ _ (le-leb _ 8 (omega (arith, more))) (effects-push f m (vec-items (v .effects)) e (mine .1) (now-fits .1))))
+
+    -- and has room for another, where it is not the eighth
+    pub grown-stands : (e′ : Effect) → vec-len (v .effects) + 1 < 8 → effect-of e′ ≡ no-effect → (move-stands n f m (move-of w) && effect-fits f m (effect-of e′)) ≡ true
+    grown-stands e′ low new =
+        let own : vec-len (v .effects) ≡ length so-far = v .effects .ok .0 ∙ sym (length-map (vec-items (v .effects)) effect-of) in
+        let all = grown-length in
+        and-from _ _ (and-from _ _ grown-fits (lt-ltb _ 8 (omega arith))) (no-effect-fits f m e′ new)
 
 -- a move that is complete joins the others, if there is memory for it
 pub moves-pushed : (n f m : ℕ) (vs vs′ : List Move) (v : Move) (b : Bool) → moves-fit n f m (map move-of vs) ≡ true → move-fits n f m (move-of v) ≡ true

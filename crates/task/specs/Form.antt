@@ -2,7 +2,7 @@
 use mathlib.Core.Path.{_≡_}
 use mathlib.Core.Bool.{Bool, true, _&&_}
 use mathlib.Core.List.{[], _∷_, _++_}
-use Prim.Native.Nat.{ℕ}
+use Prim.Native.Nat.{ℕ, _≤_}
 use lib.Dec.{ltb, eqb}
 use lib.ListN.{length}
 use Rattle.std.specs.Of.Vec.{vec-len, vec-items}
@@ -54,3 +54,8 @@ abbrev pub Grown : Move → Effect → Result Move Fault → Type 0
 Grown v e (Ok w) =
     (w .station ≡ v .station) × (w .needs ≡ v .needs) × (w .companions ≡ v .companions) × (vec-items (w .effects) ≡ vec-items (v .effects) ++ (e ∷ []))
 Grown v e (Err why) = why ≡ Memory
+
+-- a refusal by a question of form, at a place up to n
+abbrev pub Within : ℕ → Fault → Type 0
+Within n (Refused e) = (layer-of (e .question) ≡ layer.Form) × (e .place ≤ n)
+Within n Memory = Unit {0}

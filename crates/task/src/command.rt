@@ -4,6 +4,7 @@ ghost use Prim.Native.Nat.{_<_};
 ghost use lib.ListN.{length};
 ghost use Rattle.std.specs.Vec.{made};
 ghost use Rattle.task.specs.Commands.{first, taken};
+ghost use Rattle.task.specs.Form.{Asked};
 use crate::lists::Literal;
 use refusals::Question;
 use refusals::Refusal;
@@ -27,6 +28,7 @@ pub enum Command {
 // `place` is the offset of `rest` in its file.
 pub fn next(rest: &[u8], place: usize) -> Result<(Command, &[u8]), Refusal>
     ensures value { λ r. ⌜ taken r ≡ first place (now (rest .entry)) ⌝ }
+    ensures asked { λ r. ⌜ Asked place r ⌝ }
     ensures shorter { λ r. ⌜ made r (λ p. length (now (p .1)) < length (now (rest .entry))) ⌝ }
 {
     match rest {

@@ -4,7 +4,6 @@ ghost use mathlib.Core.Bool.{true};
 ghost use Prim.Native.Nat.{ℕ, _≤_, _<_};
 ghost use Rattle.std.specs.Results.{Cases};
 ghost use Rattle.std.specs.Vec.{made};
-ghost use Rattle.std.specs.Of.Vec.{vec-len};
 ghost use Rattle.model.specs.Task.{no-effect, effect-fits, move-fits};
 ghost use Rattle.refusals.specs.Answers.{seen};
 ghost use Rattle.sets.specs.Members.{members};
@@ -205,12 +204,90 @@ impl Effect {
 }
 
 impl Move {
-    // The move with one effect more, where it has room for one.
+    // The move with one effect more.
     fn with_effect(mut self, effect: Effect) -> Result<Move, Fault>
-        requires { ⌜ vec-len (self .effects) < 8 ⌝ }
         ensures { λ r. ⌜ Grown self effect r ⌝ }
     {
         self.effects.push(effect)?;
         Ok(self)
+    }
+}
+
+impl Lists {
+    // A command in an effect.
+    fn in_effect(
+        &mut self,
+        heap: Global,
+        current: Move,
+        effect: Effect,
+        command: Command,
+        place: usize,
+    ) -> Result<Part, Fault>
+        requires { ⌜ stands (now self) (Part.Effect current effect) ≡ true ⌝ }
+        ensures sizes { λ _. ⌜ now (self .exit) .sizes ≡ now (self .entry) .sizes ⌝ }
+        ensures taken { λ r. ⌜ Taken place (now (self .exit)) r ⌝ }
+    {
+        match command {
+            Command::Effect => {
+                // `effect` is not counted among the move's effects yet.
+                if current.effects.len() + 1 >= MOST_EFFECTS {
+                    return Err(Fault::Refused(Question::Effects.at(place)));
+                }
+                let grown = current.with_effect(effect)?;
+                Ok(Part::Effect(grown, Effect::empty()))
+            }
+            Command::Move(station) => {
+                let grown = current.with_effect(effect)?;
+                self.complete(grown)?;
+                self.begin(heap, station, place)
+            }
+            Command::End => {
+                let grown = current.with_effect(effect)?;
+                self.complete(grown)?;
+                self.end(place)
+            }
+            _ => {
+                let extended = effect.extended(self.sizes, command, place)?;
+                Ok(Part::Effect(current, extended))
+            }
+        }
+    }
+}
+
+impl Lists {
+    // No list yet: SIZES stands first in the file.
+    pub(crate) fn first(heap: Global, command: Command) -> Result<Lists, Refusal>
+        ensures { λ r. ⌜ Asked 0 r ⌝ }
+    {
+        let Command::Sizes(stations, fluents, moves) = command else {
+            return Err(Question::Order.at(0));
+        };
+        Ok(Lists {
+            sizes: Sizes::named(stations, fluents, moves, 0)?,
+            start: IndexSet::empty(),
+            goal: Literals::empty(),
+            moves: Vec::new(heap),
+        })
+    }
+
+    // The part that the next command stands in, after one more command.
+    pub(crate) fn take(
+        &mut self,
+        heap: Global,
+        part: Part,
+        command: Command,
+        place: usize,
+    ) -> Result<Part, Fault>
+        requires { ⌜ stands (now self) part ≡ true ⌝ }
+        ensures { λ r. ⌜ Taken place (now (self .exit)) r ⌝ }
+    {
+        match part {
+            Part::Lists => self.in_lists(heap, command, place),
+            Part::Move(current) => self.in_move(heap, current, command, place),
+            Part::Effect(current, effect) => {
+                self.in_effect(heap, current, effect, command, place)
+            }
+            Part::Ended => Err(Fault::Refused(Question::Order.at(place))),
+        }
     }
 }

@@ -4,6 +4,7 @@ mod command;
 mod form;
 mod lists;
 mod parts;
+mod read;
 mod task;
 
 pub use command::Command;
