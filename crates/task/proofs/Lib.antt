@@ -1,2 +1,4 @@
 pub mod Lits
 pub mod Fits
+pub mod Gathered
+pub mod Looked

@@ -1,5 +1,6 @@
 // The task of a line: its typed form, and the reader of task files.
 // Knows bytes, offsets and sizes of task files. Knows nothing of plans, couplings or runs.
+mod asks;
 mod command;
 mod form;
 mod lists;
