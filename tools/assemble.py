@@ -32,6 +32,8 @@ SIZES, START, GOAL, MOVE, NEED, WITH, EFFECT, IF, IFMOVE, THEN, END = 1, 2, 3, 4
 STEP, NO_MOVE = 0x31, 0xFF
 STATIONS, FLUENTS, MOVES, EFFECTS, STEPS = 16, 128, 64, 8, 256
 TASK_BYTES = 8192
+NAMING = r"(stations|fluents)\s*:(.*)"
+MOVE_LINE = r"move\s+(\S+)\s+at\s+(\S+?)\s*:"
 
 
 class Wrong(Exception):
@@ -89,7 +91,7 @@ class Task:
         self.station_of = []  # by move number
         self.body = bytearray()
         self.listed = {}  # the numbers in each list so far, by command
-        self.effects = 0
+        self.effects = 0  # of the move that is being written
         lines = list(lines_of(text))
         for line, words in lines:
             self.name(line, words)
@@ -97,7 +99,7 @@ class Task:
             self.write(line, words)
         for names in (self.stations, self.fluents, self.moves):
             if not names.numbers:
-                raise Wrong(len(text.splitlines()), f"the text ends without a {names.kind}")
+                raise Wrong(len(text.splitlines()) or 1, f"the text ends without a {names.kind}")
         sizes = [len(names.numbers) for names in (self.stations, self.fluents, self.moves)]
         self.bytes = bytes([SIZES, *sizes]) + bytes(self.body) + bytes([END])
         if len(self.bytes) > TASK_BYTES:
@@ -105,18 +107,18 @@ class Task:
 
     def name(self, line, words):
         """First pass: the names that a line gives."""
-        if match := re.fullmatch(r"(stations|fluents)\s*:(.*)", words):
+        if match := re.fullmatch(NAMING, words):
             names = self.stations if match[1] == "stations" else self.fluents
             for name in match[2].split():
                 names.add(line, name)
-        elif match := re.fullmatch(r"move\s+(\S+)\s+at\s+(\S+?)\s*:", words):
+        elif match := re.fullmatch(MOVE_LINE, words):
             self.moves.add(line, match[1])
 
     def write(self, line, words):
         """Second pass: the commands that a line stands for."""
-        if re.match(r"(stations|fluents)\s*:", words):
+        if re.fullmatch(NAMING, words):
             return
-        if match := re.fullmatch(r"move\s+(\S+)\s+at\s+(\S+?)\s*:", words):
+        if match := re.fullmatch(MOVE_LINE, words):
             station = self.stations.number(line, match[2])
             self.station_of.append(station)
             self.body += bytes([MOVE, station])

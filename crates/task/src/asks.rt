@@ -109,6 +109,16 @@ impl Task {
         }
     }
 
+    // The companions of a move. A number without a move has none.
+    pub fn companions(&self, a: u8) -> Literals
+        ensures { λ r. ⌜ literals-of r ≡ move-at (task-of (now (self .entry)) .moves) a .companions ⌝ }
+    {
+        match self.get(a) {
+            Some(found) => found.companions,
+            None => Literals::empty(),
+        }
+    }
+
     // What a move makes true and false beside these moves. A number without a move does nothing.
     pub fn results(&self, a: u8, line: IndexSet, moves: IndexSet) -> Literals
         ensures sets { λ r. ⌜ members (r .plain) ≡ line-of (now (self .entry)) .sets (members line) (members moves) a ⌝ }
