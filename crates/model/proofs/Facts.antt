@@ -31,3 +31,7 @@ any-intro (suc n) p k h e =
 -- a scan from 0 up that has found nothing yet
 pub scan-more : (p : Set) (b : ℕ) → any b p ≡ false → p b ≡ false → any (b + 1) p ≡ false
 scan-more p b before here = rw (add-one b, here, before)
+
+-- a scan that finds one
+pub scan-finds : (p : Set) (b n : ℕ) → any b p ≡ false → b < n → p b ≡ true → true ≡ any n p
+scan-finds p b n before h here = sym (any-intro n p b h here)

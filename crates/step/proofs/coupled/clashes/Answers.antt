@@ -1,0 +1,12 @@
+use mathlib.Core.Path.{refl}
+use native.Mathlib.Omega.{arith}
+use borrow.Author.Needs.{needs}
+use Rattle.task.specs.Views.{line-of}
+use Rattle.model.proofs.Facts.{scan-finds, scan-more}
+use Rattle.step.proofs.coupled.clashes.Needs as need
+
+pub returns-then-contains : need.returns-then-contains
+returns-then-contains g c = scan-finds _ (c .loop-b .b) (line-of (c .args .task .now) .moves) (c .loop-b .inv) (omega arith) (rw (← c .if-bars .ensures tt, ← c .if-contains .ensures tt) refl)
+
+pub loop-b-again : need.loop-b-again
+loop-b-again g c = search (needs, scan-more)
