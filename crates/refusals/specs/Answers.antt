@@ -6,8 +6,11 @@ use Rattle.refusals.specs.declared.Question.{Question}
 use Rattle.refusals.specs.declared.Refusal.{Refusal}
 
 -- the question q is answered no at the place p
+abbrev pub refusal : Question → ℕ → Refusal
+refusal q p = record { question = q; place = p }
+
 abbrev pub refused : {T : Type 0} → Question → ℕ → Result T Refusal
-refused q p = Err (record { question = q; place = p })
+refused q p = Err (refusal q p)
 
 -- the answer f to the value, where there is one
 abbrev pub and-then : {T U E : Type 0} → Result T E → (T → Result U E) → Result U E

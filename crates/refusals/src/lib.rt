@@ -1,6 +1,7 @@
 // Why a call is refused: the question that was answered no, and where it was asked.
 // Knows the numbers and layers of the questions. Knows nothing of what they are asked about.
 ghost use mathlib.Core.Path.{_≡_};
+ghost use Rattle.refusals.specs.Answers.{refusal};
 ghost use Rattle.refusals.specs.Numbers.{number-of, layer-of};
 ghost use Rattle.refusals.specs.declared.Fault.the-variants.{Refused, Memory};
 use std::alloc::AllocError;
@@ -45,8 +46,7 @@ pub enum Layer {
 impl Question {
     // The refusal by this question at a place.
     pub fn at(self, place: usize) -> Refusal
-        ensures question { λ r. ⌜ r .question ≡ self ⌝ }
-        ensures place { λ r. ⌜ r .place ≡ place ⌝ }
+        ensures { λ r. ⌜ r ≡ refusal self place ⌝ }
     {
         Refusal {
             question: self,
