@@ -1,5 +1,7 @@
 -- The number and the layer of every question. Assumes nothing.
+use mathlib.Core.Bool.{cond}
 use Prim.Native.Nat.{ℕ}
+use lib.Dec.{eqb}
 use Rattle.refusals.specs.declared.Question.{Question}
 use Rattle.refusals.specs.declared.Question.the-variants.{Limit, Command, Order, Range, New, Effects, Station, Needs, Present, Absent, Agree, Goal}
 use Rattle.refusals.specs.declared.Layer as layers
@@ -33,3 +35,18 @@ layer-of Present = Run
 layer-of Absent = Run
 layer-of Agree = Run
 layer-of Goal = Run
+
+-- the question with a number; no two have the same
+abbrev pub question : ℕ → Question
+question n =
+    cond (eqb n 1) Limit
+    (cond (eqb n 2) Command
+    (cond (eqb n 3) Order
+    (cond (eqb n 4) Range
+    (cond (eqb n 5) New
+    (cond (eqb n 6) Effects
+    (cond (eqb n 7) Station
+    (cond (eqb n 12) Needs
+    (cond (eqb n 13) Present
+    (cond (eqb n 14) Absent
+    (cond (eqb n 15) Agree Goal))))))))))
