@@ -9,7 +9,8 @@ use Rattle.std.specs.declared.result.Result.{Result}
 use Rattle.std.specs.declared.result.Result.the-variants.{Ok, Err}
 use Rattle.refusals.specs.declared.Question.{Question}
 use Rattle.refusals.specs.declared.Refusal.{Refusal}
-use Rattle.refusals.specs.Numbers.{number-of}
+use Rattle.refusals.specs.declared.Fault.{Fault}
+use Rattle.refusals.specs.declared.Fault.the-variants.{Refused, Memory}
 use Rattle.refusals.proofs.Distinct.{question-number}
 use Rattle.model.specs.Sets.{Set}
 use Rattle.model.specs.Line.{Line, Coupling}
@@ -19,7 +20,9 @@ use Rattle.sets.specs.declared.IndexSet.{IndexSet}
 use Rattle.step.specs.Outcome.{Performed}
 use Rattle.world.specs.Plans.{Leads, Solves, Fails, Judged}
 use Rattle.world.proofs.Walks.{judged-ok, judged-err}
-use Rattle.sequencer.specs.Joint.{answered, joint-leads}
+use Rattle.task.specs.Views.{line-of}
+use Rattle.task.specs.declared.task.Task.{Task}
+use Rattle.sequencer.specs.Joint.{answered, joint-leads, Verdict, Filed}
 
 module _ (L : Line) (K : Coupling) (s S S′ : Set) (same : S ≡ S′) where
   pub leads-on : (t : IndexSet) → Performed L K s S (Ok t) → joint-leads L K s S′ ≡ Ok (members t)
@@ -60,3 +63,9 @@ module _ {S A B : Type 0} (next : S → B → Result S Question) (f : A → B) w
     pub judged-map : (r : Result (Unit {0}) Refusal) → Judged by ends s xs r → Judged next ends s (map f xs) r
     judged-map (Ok u) j = judged-ok next ends s (map f xs) (solves-map (j .accepted refl))
     judged-map (Err e) j = judged-err next ends s (map f xs) e (fails-map e (j .refused e refl))
+
+-- the verdict on a task that was read is one on its file
+pub filed : (K : Coupling) (task plan : List ℕ) (t : Task) (r : Result (Unit {0}) Fault) → Verdict (line-of t) K plan r → Filed K task plan r
+filed K task plan t (Ok u) v = (t, v)
+filed K task plan t (Err (Refused e)) v = inr (t, v)
+filed K task plan t (Err Memory) v = tt
