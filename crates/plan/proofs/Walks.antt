@@ -85,8 +85,8 @@ module _ (L : Line) (whole : Result Steps Refusal) (size : ℕ) (done : Steps) w
             turns = t .0;
             enough = omega (arith, t .1);
             same =
-              ap (λ d. after-those d (steps (t .0) L size after)) more ∙ after-one done s (steps (t .0) L size after)
-              ∙ sym (sym (l .same) ∙ ap (after-those done) (t .2 ∙ ap (turn (t .0) L size (size - length rest)) (sym taken) ∙ ap (from-here (t .0)) (sym on)));
+                ap (λ d. after-those d (steps (t .0) L size after)) more ∙ after-one done s (steps (t .0) L size after)
+                ∙ sym (sym (l .same) ∙ ap (after-those done) (t .2 ∙ ap (turn (t .0) L size (size - length rest)) (sym taken) ∙ ap (from-here (t .0)) (sym on)));
           }
 
 -- a file within the limit gives what its walk gives

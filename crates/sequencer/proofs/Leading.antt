@@ -56,8 +56,14 @@ module _ {S A B : Type 0} (next : S → B → Result S Question) (f : A → B) w
 
     fails-map : (e : Refusal) → Fails by ends s xs e → Fails next ends s (map f xs) e
     fails-map e (inl h) =
-        inl (h .0, f (h .1), map f (h .2), subst (λ (ys : List B). Leads next s ys (h .0)) (sym (take-map (e .place) xs)) (there s (take (e .place) xs) (h .0) (h .3)),
-        drop-map (e .place) xs ∙ ap (map f) (h .4), h .5)
+        inl (
+          h .0,
+          f (h .1),
+          map f (h .2),
+          subst (λ (ys : List B). Leads next s ys (h .0)) (sym (take-map (e .place) xs)) (there s (take (e .place) xs) (h .0) (h .3)),
+          drop-map (e .place) xs ∙ ap (map f) (h .4),
+          h .5,
+        )
     fails-map e (inr h) = inr (h .0, there s xs (h .0) (h .1), h .2, h .3 ∙ sym (length-map xs f))
 
     pub judged-map : (r : Result (Unit {0}) Refusal) → Judged by ends s xs r → Judged next ends s (map f xs) r

@@ -68,11 +68,7 @@ pub impl<'t, 'c, C: Coupling> World for Joint<'t, 'c, C> as JointWorld {
 }
 
 // Does the joint plan with these steps solve the task under the coupling?
-pub fn judge_steps<C: Coupling>(
-    task: &Task,
-    coupling: &C,
-    steps: &[Step],
-) -> Result<(), Refusal>
+pub fn judge_steps<C: Coupling>(task: &Task, coupling: &C, steps: &[Step]) -> Result<(), Refusal>
     ensures { λ r. ⌜ Judged (λ s a. joint-leads (line-of (now (task .entry))) (coupled-by (needed (now (coupling .entry))) (barred (now (coupling .entry)))) s (moves-of a)) (joint-ends (line-of (now (task .entry)))) (line-of (now (task .entry)) .start) (now (steps .entry)) r ⌝ }
 {
     judge(&Joint { task, coupling }, steps)

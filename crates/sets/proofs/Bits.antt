@@ -170,7 +170,7 @@ bit-ones n k =
     (λ (l : k < n).
     let split : n - k - 1 + 1 + k ≡ n = omega arith in
     let high : (2 ^ (n - k - 1 + 1 + k) - 1) / 2 ^ k ≡ 2 ^ (n - k - 1 + 1) - 1 =
-      rw (ones-split (n - k - 1 + 1) k) (shr-high (2 ^ (n - k - 1 + 1) - 1) k (2 ^ k - 1) (ones-lt k)) in
+    rw (ones-split (n - k - 1 + 1) k) (shr-high (2 ^ (n - k - 1 + 1) - 1) k (2 ^ k - 1) (ones-lt k)) in
     let high′ : (2 ^ n - 1) / 2 ^ k ≡ 2 ^ (n - k - 1 + 1) - 1 = rw split at high in
     let two : 2 ^ (n - k - 1 + 1) ≡ 2 ^ (n - k - 1) * 2 = pow-add 2 (n - k - 1) 1 in
     let some : 0 < 2 ^ (n - k - 1) = pow-pos (n - k - 1) in

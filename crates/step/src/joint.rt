@@ -90,7 +90,10 @@ pub fn step_from<C: Coupling>(
         return Err(Question::Absent);
     }
     let changes = joint_changes(task, line, moves);
-    if changes.made.intersection(changes.unmade).any_below(task.fluents()) {
+    if changes
+        .made
+        .intersection(changes.unmade)
+        .any_below(task.fluents()) {
         return Err(Question::Agree);
     }
     Ok(line.difference(changes.unmade).union(changes.made))

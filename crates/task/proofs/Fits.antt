@@ -174,7 +174,7 @@ module _ (n f m : ℕ) (v : Move) (e : Effect) (h : (move-stands n f m (move-of 
     pub grown-fits : move-fits n f m (move-of w) ≡ true
     grown-fits =
         let same : move-of w ≡ record { station = v .station; needs = literals-of (v .needs); companions = literals-of (v .companions); effects = map effect-of (vec-items (v .effects) ++ (e ∷ [])) } =
-          λ i. record { station = g .0 i; needs = literals-of (g .1 i); companions = literals-of (g .2 i); effects = map effect-of (g .3 i) } in
+        λ i. record { station = g .0 i; needs = literals-of (g .1 i); companions = literals-of (g .2 i); effects = map effect-of (g .3 i) } in
         let parts = and-parts (move-fits n f m (move-of v)) (ltb (length so-far) 8) (now-fits .0) in
         let both = and-parts placed (leb (length so-far) 8 && effects-fit f m so-far) (parts .0) in
         let mine = and-parts (leb (length so-far) 8) (effects-fit f m so-far) (both .1) in

@@ -79,7 +79,7 @@ impl Task {
     pub fn met(&self, line: IndexSet) -> bool
         ensures { λ r. ⌜ r ≡ line-of (now (self .entry)) .goal (members line) ⌝ }
     {
-        self.lists.goal.hold(line)
+        self.goal().hold(line)
     }
 
     // The move with a number, if the task has one.

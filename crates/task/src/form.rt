@@ -40,7 +40,13 @@ impl Sizes {
     fn named(stations: u8, fluents: u8, moves: u8, place: usize) -> Result<Sizes, Refusal>
         ensures { λ r. ⌜ Asked place r ⌝ }
     {
-        if stations < 1 || stations > 16 || fluents < 1 || fluents > 128 || moves < 1 || moves > 64 {
+        if stations < 1
+            || stations > 16
+            || fluents < 1
+            || fluents > 128
+            || moves < 1
+            || moves > 64
+        {
             return Err(Question::Range.at(place));
         }
         Ok(Sizes {
@@ -176,12 +182,7 @@ impl Lists {
 
 impl Effect {
     // One of the effect's own commands: a condition, a move condition or a result.
-    fn extended(
-        self,
-        sizes: Sizes,
-        command: Command,
-        place: usize,
-    ) -> Result<Effect, Refusal>
+    fn extended(self, sizes: Sizes, command: Command, place: usize) -> Result<Effect, Refusal>
         requires { ⌜ effect-fits (sizes .fluents) (sizes .moves) (effect-of self) ≡ true ⌝ }
         ensures fits { λ r. ⌜ made r (λ e. effect-fits (sizes .fluents) (sizes .moves) (effect-of e) ≡ true) ⌝ }
         ensures asked { λ r. ⌜ Asked place r ⌝ }

@@ -21,5 +21,5 @@ returns c =
     let f : ℕ → model.Literals = λ k. move-at ms k .companions in
     let end : c .loop-a .a ≡ line-of (c .args .task .now) .moves = omega arith in
     let all = filled-all f (line-of (c .args .task .now) .moves) (c .loop-a .a) (vec-items (c .loop-a .rows)) (c .loop-a .inv) end
-      (λ k h. ap (λ m. m .companions) (getD-past ms k no-move h)) in
+    (λ k h. ap (λ m. m .companions) (getD-past ms k no-move h)) in
     record { needs = fun-ext (λ a. ap (λ l. l true) (all a)); bars = fun-ext (λ a. ap (λ l. l false) (all a)) }

@@ -15,7 +15,7 @@ pub loop-b-again : need.loop-b-again
 loop-b-again c =
     let at = ranged-at (c .args .moves) (c .args .operands .now) (c .loop-b .b-index) (c .loop-b-test .taken) in
     sym (sym (c .loop-b .inv) ∙ at
-      ∙ elim (c .else-b .came) [ else-b·by·then-b·else-b-moves w ↦ grind (arith, tells, w .if-b-moves .left) | else-b·by·else-b w ↦ grind (arith, tells, w .if-b .left) ])
+    ∙ elim (c .else-b .came) [ else-b·by·then-b·else-b-moves w ↦ grind (arith, tells, w .if-b-moves .left) | else-b·by·else-b w ↦ grind (arith, tells, w .if-b .left) ])
 
 pub returns : need.returns
 returns c = rw (drop-all (c .loop-b .b-index) (c .args .operands .now) (c .loop-b-test .left)) at (c .loop-b .inv)

@@ -38,9 +38,11 @@ returns-in-Break-read-step c =
 pub loop-rest-again : need.loop-rest-again
 loop-rest-again c =
     let L = line-of (c .args .task .now) in
-    let got = c .in-Continue-command .ensures tt in
-    (omega arith, goes-on L _ _ _ _ (c .loop-rest .inv .1) _ _ (got .value) (got .shorter) _ _ (c .in-Continue-read-step .ensures tt)
-      (mapped-push (vec-items (c .loop-rest .steps)) _ _ (c .in-Continue-push .ensures tt .items)))
+    let got = c .in-Continue-command .ensures tt in (
+      omega arith,
+      goes-on L _ _ _ _ (c .loop-rest .inv .1) _ _ (got .value) (got .shorter) _ _ (c .in-Continue-read-step .ensures tt)
+          (mapped-push (vec-items (c .loop-rest .steps)) _ _ (c .in-Continue-push .ensures tt .items)),
+    )
 
 pub returns : need.returns
 returns c =

@@ -15,9 +15,9 @@ loop-a-again c =
     elim (c .if-contains .came) [
       | then-contains w ↦ (
         gather-more (L .sets s S) S (members (c .loop-a .made)) (c .loop-a .a) (c .loop-a .inv .0) (members (c .if-contains .made)) (w .if-contains .ensures tt)
-        (ap members (w .made-is) ∙ w .union-made .ensures ∙ ap (either (members (c .loop-a .made))) (w .results-results .ensures .sets)),
+            (ap members (w .made-is) ∙ w .union-made .ensures ∙ ap (either (members (c .loop-a .made))) (w .results-results .ensures .sets)),
         gather-more (L .clears s S) S (members (c .loop-a .unmade)) (c .loop-a .a) (c .loop-a .inv .1) (members (c .if-contains .unmade)) (w .if-contains .ensures tt)
-        (ap members (w .unmade-is) ∙ w .union-unmade .ensures ∙ ap (either (members (c .loop-a .unmade))) (w .results-results .ensures .clears)),
+            (ap members (w .unmade-is) ∙ w .union-unmade .ensures ∙ ap (either (members (c .loop-a .unmade))) (w .results-results .ensures .clears)),
       )
       | else-contains w ↦ (
         gather-skip (L .sets s S) S (members (c .loop-a .made)) (c .loop-a .a) (c .loop-a .inv .0) (members (c .if-contains .made)) (w .if-contains .ensures tt) (ap members (w .made-is)),

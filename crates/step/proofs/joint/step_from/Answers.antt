@@ -13,9 +13,10 @@ returns-then-any-below g c =
 
 pub returns : need.returns
 returns g c =
-    let K = coupled-by (g .C·Coupling .needed (c .args .coupling .now)) (g .C·Coupling .barred (c .args .coupling .now)) in
-    (step-allowed (line-of (c .args .task .now)) K (members (c .args .line)) (members (c .args .moves)) (c .if-some-unready .ensures tt) (c .if-some-lack .ensures tt) (c .if-some-clash .ensures tt)
-      _ _ (c .joint-changes-changes .ensures .made) (c .joint-changes-changes .ensures .unmade) (c .fluents .result) (members (c .intersection .result)) (c .fluents .ensures .value) (c .intersection .ensures)
-      (c .if-any-below .ensures tt),
-     step-after (line-of (c .args .task .now)) K (members (c .args .line)) (members (c .args .moves)) (c .if-some-unready .ensures tt) (c .if-some-lack .ensures tt) (c .if-some-clash .ensures tt)
-      _ _ (c .joint-changes-changes .ensures .made) (c .joint-changes-changes .ensures .unmade) _ _ (c .difference .ensures) (c .union .ensures))
+    let K = coupled-by (g .C·Coupling .needed (c .args .coupling .now)) (g .C·Coupling .barred (c .args .coupling .now)) in (
+      step-allowed (line-of (c .args .task .now)) K (members (c .args .line)) (members (c .args .moves)) (c .if-some-unready .ensures tt) (c .if-some-lack .ensures tt) (c .if-some-clash .ensures tt)
+          _ _ (c .joint-changes-changes .ensures .made) (c .joint-changes-changes .ensures .unmade) (c .fluents .result) (members (c .intersection .result)) (c .fluents .ensures .value) (c .intersection .ensures)
+          (c .if-any-below .ensures tt),
+      step-after (line-of (c .args .task .now)) K (members (c .args .line)) (members (c .args .moves)) (c .if-some-unready .ensures tt) (c .if-some-lack .ensures tt) (c .if-some-clash .ensures tt)
+          _ _ (c .joint-changes-changes .ensures .made) (c .joint-changes-changes .ensures .unmade) _ _ (c .difference .ensures) (c .union .ensures),
+    )

@@ -1,0 +1,163 @@
+// A refusal in words: what was asked, what was found there, and what to do.
+use crate::words::Count;
+use crate::words::List;
+use refusals::Layer;
+use refusals::Question;
+use refusals::Refusal;
+use sets::IndexSet;
+use std::fmt;
+use task::Literals;
+
+// A refusal in short: "refused 12 run 1".
+#[derive(Clone, Copy)]
+pub struct InShort(pub Refusal);
+
+pub impl fmt::Display for InShort as InShortDisplay {
+    fn fmt<W: fmt::Write>(&self, f: &mut fmt::Formatter<W>) -> fmt::Result {
+        let number = self.0.question.number();
+        let place = self.0.place;
+        match self.0.question.layer() {
+            Layer::Form => write!(f, "refused {number} form {place}"),
+            Layer::Run => write!(f, "refused {number} run {place}"),
+        }
+    }
+}
+
+// The file that a question of form is asked of.
+#[derive(Clone, Copy)]
+pub enum Source {
+    Task,
+    Plan,
+}
+
+pub impl fmt::Display for Source as SourceDisplay {
+    fn fmt<W: fmt::Write>(&self, f: &mut fmt::Formatter<W>) -> fmt::Result {
+        f.write_str(
+            match *self {
+                Source::Task => "task file",
+                Source::Plan => "plan file",
+            },
+        )
+    }
+}
+
+// What was asked and answered no, of a file or of a step.
+#[derive(Clone, Copy)]
+pub struct Asked {
+    pub refusal: Refusal,
+    pub source: Source,
+}
+
+pub impl fmt::Display for Asked as AskedDisplay {
+    fn fmt<W: fmt::Write>(&self, f: &mut fmt::Formatter<W>) -> fmt::Result {
+        let place = self.refusal.place;
+        let source = self.source;
+        match self.refusal.question {
+            Question::Limit => write!(f, "the {source} has more bytes than its limit"),
+            Question::Command => {
+                write!(f, "no known command with all its operands stands at offset {place} of the {source}")
+            }
+            Question::Order => {
+                write!(f, "the command at offset {place} of the {source} is out of order")
+            }
+            Question::Range => {
+                write!(f, "an operand of the command at offset {place} of the {source} is out of range")
+            }
+            Question::New => {
+                write!(f, "the fluent or move at offset {place} of the {source} is in its list already")
+            }
+            Question::Effects => {
+                write!(f, "the EFFECT at offset {place} of the {source} is the ninth of its move")
+            }
+            Question::Station => {
+                write!(f, "the STEP at offset {place} of the {source} has a move at a station that is not its own")
+            }
+            Question::Needs => write!(f, "the needs of a move of step {place} do not hold"),
+            Question::Present => {
+                write!(f, "a move of step {place} needs a move that is not in the step")
+            }
+            Question::Absent => write!(f, "a move of step {place} bars a move that is in the step"),
+            Question::Agree => write!(f, "the results of step {place} name a fluent both ways"),
+            Question::Goal => {
+                let steps = Count(place, "step");
+                write!(f, "the goal is not met after {steps}")
+            }
+        }
+    }
+}
+
+// What stands in the way of a yes.
+#[derive(Clone, Copy)]
+pub enum Found {
+    // This byte stands at the place of the refusal.
+    Byte(u8),
+    // The file ends at the place of the refusal.
+    End,
+    // Needs of a move that do not hold.
+    Unmet(u8, Literals),
+    // Moves that a move needs, and that are not in the step.
+    Missing(u8, IndexSet),
+    // Moves that a move bars, and that are in the step.
+    Barred(u8, IndexSet),
+    // Fluents that are named both ways.
+    Torn(IndexSet),
+    // Goal literals that do not hold.
+    Short(Literals),
+}
+
+pub impl fmt::Display for Found as FoundDisplay {
+    fn fmt<W: fmt::Write>(&self, f: &mut fmt::Formatter<W>) -> fmt::Result {
+        match *self {
+            Found::Byte(b) => write!(f, "the byte {b:02X} stands there"),
+            Found::End => f.write_str("the file ends there"),
+            Found::Unmet(a, literals) => {
+                let needs = List::fluents(literals);
+                write!(f, "move {a} needs {needs}")
+            }
+            Found::Missing(a, moves) => {
+                let needed = List::moves(plain(moves));
+                write!(f, "move {a} needs {needed}")
+            }
+            Found::Barred(a, moves) => {
+                let barred = List::moves(plain(moves));
+                write!(f, "move {a} bars {barred}")
+            }
+            Found::Torn(fluents) => {
+                let torn = List::fluents(plain(fluents));
+                write!(f, "{torn}, made true and made false")
+            }
+            Found::Short(literals) => {
+                let goal = List::fluents(literals);
+                write!(f, "{goal} does not hold")
+            }
+        }
+    }
+}
+
+fn plain(set: IndexSet) -> Literals {
+    Literals {
+        plain: set,
+        negated: IndexSet::empty(),
+    }
+}
+
+// What to do about a refusal.
+pub fn hint(question: Question, source: Source) -> &'static str {
+    match (question, source) {
+        (Question::Limit, Source::Task) => "make the file shorter; a task file has at most 8,192 bytes",
+        (Question::Limit, Source::Plan) => "cut the plan in two; a plan has at most 256 steps, which are 4,352 bytes",
+        (Question::Command, Source::Task) => "look for an operand too many or too few further up, or for a missing END",
+        (Question::Command, Source::Plan) => "write 31 and sixteen operands for each step",
+        (Question::Order, _) => "compare with the order of commands in docs/FORMATS.md, and count the moves",
+        (Question::Range, Source::Task) => "compare the operands with SIZES; numbers begin at 0",
+        (Question::Range, Source::Plan) => "name a move that the task has, or FF for none; numbers begin at 0",
+        (Question::New, _) => "take out one of the two; the sign does not matter",
+        (Question::Effects, _) => "join effects that have the same conditions, or divide the move into two",
+        (Question::Station, _) => "put the move into the operand of its own station",
+        (Question::Needs, _) => "bring the need about in an earlier step; what the step itself does comes too late",
+        (Question::Present, _) => "put the needed move into the step, or take out the move that needs it",
+        (Question::Absent, _) => "put the two moves into different steps",
+        (Question::Agree, _) => "put the moves into different steps, or give an effect a condition",
+        (Question::Goal, _) => "add steps, or look for the step that made a goal literal false",
+    }
+}

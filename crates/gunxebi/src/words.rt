@@ -1,0 +1,154 @@
+// Tasks and steps in words. Stations, fluents and moves go by their numbers.
+use sets::IndexSet;
+use std::fmt;
+use step::Step;
+use task::Effect;
+use task::Literals;
+use task::Move;
+use task::Task;
+
+// Things of a kind, counted: "1 step", "2 steps".
+#[derive(Clone, Copy)]
+pub struct Count(pub usize, pub &'static str);
+
+pub impl fmt::Display for Count as CountDisplay {
+    fn fmt<W: fmt::Write>(&self, f: &mut fmt::Formatter<W>) -> fmt::Result {
+        let Count(n, thing) = *self;
+        let ending = if n == 1 { "" } else { "s" };
+        write!(f, "{n} {thing}{ending}")
+    }
+}
+
+// Literals of fluents or of moves: "fluent 2, not fluent 3", or "none".
+#[derive(Clone, Copy)]
+pub struct List {
+    kind: &'static str,
+    literals: Literals,
+}
+
+impl List {
+    pub fn fluents(literals: Literals) -> List {
+        List {
+            kind: "fluent",
+            literals,
+        }
+    }
+
+    pub fn moves(literals: Literals) -> List {
+        List {
+            kind: "move",
+            literals,
+        }
+    }
+
+    // The fluents of a set.
+    pub fn all(set: IndexSet) -> List {
+        List::fluents(Literals {
+            plain: set,
+            negated: IndexSet::empty(),
+        })
+    }
+
+    fn is_empty(&self) -> bool {
+        let literals = self.literals;
+        !literals.plain.union(literals.negated).any_below(128)
+    }
+}
+
+pub impl fmt::Display for List as ListDisplay {
+    fn fmt<W: fmt::Write>(&self, f: &mut fmt::Formatter<W>) -> fmt::Result {
+        let kind = self.kind;
+        let mut gap = "";
+        for k in 0..128u8 {
+            if self.literals.plain.contains(k) {
+                write!(f, "{gap}{kind} {k}")?;
+                gap = ", ";
+            }
+            if self.literals.negated.contains(k) {
+                write!(f, "{gap}not {kind} {k}")?;
+                gap = ", ";
+            }
+        }
+        if gap.is_empty() {
+            f.write_str("none")?;
+        }
+        Ok(())
+    }
+}
+
+// An effect: "if fluent 0, not move 1: fluent 2", or "always: fluent 2".
+#[derive(Clone, Copy)]
+struct EffectInWords(Effect);
+
+pub impl fmt::Display for EffectInWords as EffectDisplay {
+    fn fmt<W: fmt::Write>(&self, f: &mut fmt::Formatter<W>) -> fmt::Result {
+        let conditions = List::fluents(self.0.conditions);
+        let alongside = List::moves(self.0.alongside);
+        let results = List::fluents(self.0.results);
+        match (conditions.is_empty(), alongside.is_empty()) {
+            (true, true) => write!(f, "always: {results}"),
+            (false, true) => write!(f, "if {conditions}: {results}"),
+            (true, false) => write!(f, "if {alongside}: {results}"),
+            (false, false) => write!(f, "if {conditions}, {alongside}: {results}"),
+        }
+    }
+}
+
+// A move, below the line that names it.
+struct MoveInWords<'a>(&'a Move);
+
+pub impl<'a> fmt::Display for MoveInWords<'a> as MoveDisplay {
+    fn fmt<W: fmt::Write>(&self, f: &mut fmt::Formatter<W>) -> fmt::Result {
+        let needs = List::fluents(self.0.needs);
+        let companions = List::moves(self.0.companions);
+        write!(f, "    needs: {needs}\n    companions: {companions}\n")?;
+        for effect in &self.0.effects {
+            let words = EffectInWords(*effect);
+            write!(f, "    effect: {words}\n")?;
+        }
+        Ok(())
+    }
+}
+
+// A task: its sizes, start and goal, then its moves.
+pub struct TaskInWords<'a>(pub &'a Task);
+
+pub impl<'a> fmt::Display for TaskInWords<'a> as TaskDisplay {
+    fn fmt<W: fmt::Write>(&self, f: &mut fmt::Formatter<W>) -> fmt::Result {
+        let task = self.0;
+        let stations = Count(task.stations() as usize, "station");
+        let fluents = Count(task.fluents() as usize, "fluent");
+        let moves = Count(task.moves() as usize, "move");
+        let start = List::all(task.start());
+        let goal = List::fluents(task.goal());
+        write!(f, "task: {stations}, {fluents}, {moves}\n  start: {start}\n  goal: {goal}\n")?;
+        for a in 0..task.moves() {
+            if let Some(one) = task.get(a) {
+                let station = one.station;
+                let words = MoveInWords(one);
+                write!(f, "  move {a} of station {station}\n{words}")?;
+            }
+        }
+        Ok(())
+    }
+}
+
+// The moves of a step, station by station: "station 0 makes move 2".
+#[derive(Clone, Copy)]
+pub struct StepInWords(pub Step);
+
+pub impl fmt::Display for StepInWords as StepDisplay {
+    fn fmt<W: fmt::Write>(&self, f: &mut fmt::Formatter<W>) -> fmt::Result {
+        let mut gap = "";
+        for station in 0..16u8 {
+            if let Some(a) = self.0.move_of(station) {
+                write!(f, "{gap}station {station} makes move {a}")?;
+                gap = ", ";
+            }
+        }
+        if gap.is_empty() {
+            f.write_str("no station makes a move")?;
+        }
+        Ok(())
+    }
+}
