@@ -1,6 +1,8 @@
 // A refusal in words: what was asked, what was found there, and what to do.
 use crate::words::Count;
+use crate::words::CountDisplay;
 use crate::words::List;
+use crate::words::ListDisplay;
 use refusals::Layer;
 use refusals::Question;
 use refusals::Refusal;

@@ -95,6 +95,7 @@ pub impl fmt::Display for EffectInWords as EffectDisplay {
 }
 
 // A move, below the line that names it.
+#[derive(Drop)]
 struct MoveInWords<'a>(&'a Move);
 
 pub impl<'a> fmt::Display for MoveInWords<'a> as MoveDisplay {
@@ -111,6 +112,7 @@ pub impl<'a> fmt::Display for MoveInWords<'a> as MoveDisplay {
 }
 
 // A task: its sizes, start and goal, then its moves.
+#[derive(Drop)]
 pub struct TaskInWords<'a>(pub &'a Task);
 
 pub impl<'a> fmt::Display for TaskInWords<'a> as TaskDisplay {
