@@ -1,14 +1,21 @@
 // The program `gunxebi`: judges plans, and shows what their steps do.
 // Knows files, standard input and output, and words. Leaves every verdict to the sequencer.
 mod args;
+mod batch;
 mod causes;
 mod files;
+mod flaw;
+mod hex;
+mod lines;
 mod refused;
+mod request;
 mod show;
+mod text;
 mod trouble;
 mod words;
 
 use args::Command;
+use batch::answer_all;
 use show::Verdict;
 use show::judge;
 use trouble::Trouble;
@@ -41,7 +48,10 @@ fn run(rt: &LibcRuntime) -> Result<Verdict, Trouble> {
             judge(rt, TASK, PLAN)
         }
         Command::Judge { task, plan } => judge(rt, task.as_str(), plan.as_str()),
-        Command::Batch => Ok(Verdict::Solves),
+        Command::Batch => {
+            answer_all(rt)?;
+            Ok(Verdict::Solves)
+        }
         Command::Help => {
             rt.print(USAGE)?;
             Ok(Verdict::Solves)

@@ -53,23 +53,31 @@ impl List {
         let literals = self.literals;
         !literals.plain.union(literals.negated).any_below(128)
     }
+
+    // What stands before a number of the list.
+    fn sign(&self, k: u8) -> Option<&'static str> {
+        if self.literals.plain.contains(k) {
+            Some("")
+        } else if self.literals.negated.contains(k) {
+            Some("not ")
+        } else {
+            None
+        }
+    }
 }
 
 pub impl fmt::Display for List as ListDisplay {
     fn fmt<W: fmt::Write>(&self, f: &mut fmt::Formatter<W>) -> fmt::Result {
         let kind = self.kind;
-        let mut gap = "";
+        let mut is_first = true;
         for k in 0..128u8 {
-            if self.literals.plain.contains(k) {
-                write!(f, "{gap}{kind} {k}")?;
-                gap = ", ";
-            }
-            if self.literals.negated.contains(k) {
-                write!(f, "{gap}not {kind} {k}")?;
-                gap = ", ";
+            if let Some(sign) = self.sign(k) {
+                let gap = if is_first { "" } else { ", " };
+                write!(f, "{gap}{sign}{kind} {k}")?;
+                is_first = false;
             }
         }
-        if gap.is_empty() {
+        if is_first {
             f.write_str("none")?;
         }
         Ok(())
@@ -141,14 +149,15 @@ pub struct StepInWords(pub Step);
 
 pub impl fmt::Display for StepInWords as StepDisplay {
     fn fmt<W: fmt::Write>(&self, f: &mut fmt::Formatter<W>) -> fmt::Result {
-        let mut gap = "";
+        let mut is_first = true;
         for station in 0..16u8 {
             if let Some(a) = self.0.move_of(station) {
+                let gap = if is_first { "" } else { ", " };
                 write!(f, "{gap}station {station} makes move {a}")?;
-                gap = ", ";
+                is_first = false;
             }
         }
-        if gap.is_empty() {
+        if is_first {
             f.write_str("no station makes a move")?;
         }
         Ok(())
