@@ -14,8 +14,8 @@ use Rattle.std.proofs.shelf.Lists.{getD-map, getD-past}
 use Rattle.std.proofs.shelf.Tests.{cases-lt}
 use Rattle.model.specs.Sets as model
 use Rattle.model.specs.Sets.{no-literals}
-use Rattle.task.specs.Lists.{literals-of}
-use Rattle.task.specs.declared.lists.Literals.{Literals}
+use Rattle.moves.specs.Lists.{literals-of}
+use Rattle.moves.specs.declared.lists.Literals.{Literals}
 
 abbrev at : List Literals → ℕ → model.Literals
 at rs a = getD (map literals-of rs) a no-literals

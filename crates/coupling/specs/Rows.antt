@@ -4,7 +4,7 @@ use Prim.Native.Nat.{ℕ}
 use lib.ListN.{getD}
 use Rattle.std.specs.Of.Vec.{vec-items}
 use Rattle.model.specs.Sets.{Literals, no-literals}
-use Rattle.task.specs.Lists.{literals-of}
+use Rattle.moves.specs.Lists.{literals-of}
 use Rattle.coupling.specs.declared.Written.{Written}
 
 -- the companions of the move a; a number that has no row has none

@@ -5,12 +5,12 @@ ghost use mathlib.Core.Bool.{Bool, true, false};
 ghost use Prim.Native.Nat.{ℕ};
 ghost use Rattle.std.specs.Vec.{made};
 ghost use Rattle.model.specs.Task.{written};
-ghost use Rattle.task.specs.Lists.{literals-of};
+ghost use Rattle.moves.specs.Lists.{literals-of};
 ghost use Rattle.task.specs.Views.{task-of};
 ghost use Rattle.coupling.specs.Rows.{row};
 use std::alloc::AllocError;
 use std::alloc::Global;
-use task::Literals;
+use moves::Literals;
 use task::Task;
 
 // Two relations between move numbers. A question changes nothing.

@@ -1,5 +1,5 @@
 // What the program is asked to do.
-use crate::trouble::Trouble;
+use crate::ending::Trouble;
 use std::env;
 
 #[derive(Drop)]

@@ -7,27 +7,16 @@ use crate::lines::read_line;
 use crate::refused::InShort;
 use crate::refused::InShortDisplay;
 use crate::request;
-use crate::trouble::Trouble;
-use crate::trouble::TroubleFromIo;
-use coupling::Written;
-use coupling::WrittenCoupling;
+use crate::verdict::judge_written;
+use crate::ending::Trouble;
+use crate::ending::TroubleFromIo;
 use refusals::Fault;
-use refusals::FaultFromAlloc;
 use refusals::Refusal;
-use sequencer::judge_joint_plan;
 use std::alloc::Global;
 use std::fmt;
 use std::io::BufReader;
 use std::io::BufWriter;
 use std::io::Write;
-use task::Task;
-
-// The verdict on two files under the written coupling.
-fn judge_written(heap: Global, task: &[u8], plan: &[u8]) -> Result<(), Fault> {
-    let task = Task::read(heap, task)?;
-    let coupling = Written::new(heap, &task)?;
-    judge_joint_plan(heap, &task, &coupling, plan)
-}
 
 // Why a request is not answered by 'solves'.
 #[derive(Clone, Copy)]

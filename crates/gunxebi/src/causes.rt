@@ -1,8 +1,8 @@
-// What in a step or at the end makes the line refuse it.
+// What a refusal is about: the bytes of a file, or a move and what it lacks on the line.
 use crate::refused::Found;
+use crate::refused::Source;
 use coupling::Coupling;
 use refusals::Question;
-use refusals::QuestionPartialEq;
 use refusals::Refusal;
 use sets::IndexSet;
 use step::clashes;
@@ -10,6 +10,17 @@ use step::joint_changes;
 use step::lacks;
 use task::Literals;
 use task::Task;
+
+// The operand of a station without a move.
+const NONE: u8 = 0xff;
+
+// Where the steps of a plan end: the fluents that are true there, and the moves of the step that is refused there, if
+// one is.
+#[derive(Clone, Copy)]
+pub struct Stop {
+    pub line: IndexSet,
+    pub moves: IndexSet,
+}
 
 // The literals that do not hold in a set.
 fn unmet(literals: Literals, set: IndexSet) -> Literals {
@@ -20,16 +31,17 @@ fn unmet(literals: Literals, set: IndexSet) -> Literals {
 }
 
 // The first move of a step whose needs do not hold.
-fn unready(task: &Task, line: IndexSet, moves: IndexSet) -> Option<Found> {
+fn unready<'a>(task: &Task, stop: Stop) -> Option<Found<'a>> {
     for a in 0..task.moves() {
-        if moves.contains(a) && !task.ready(a, line) {
-            let one = task.get(a)?;
-            return Some(Found::Unmet(a, unmet(one.needs, line)));
+        if stop.moves.contains(a) && !task.ready(a, stop.line) {
+            let needs = unmet(task.get(a)?.needs, stop.line);
+            return Some(Found::Unmet { a, needs });
         }
     }
     None
 }
 
+// The moves that a move needs.
 fn needed_by<C: Coupling>(task: &Task, coupling: &C, a: u8) -> IndexSet {
     let mut all = IndexSet::empty();
     for b in 0..task.moves() {
@@ -40,6 +52,7 @@ fn needed_by<C: Coupling>(task: &Task, coupling: &C, a: u8) -> IndexSet {
     all
 }
 
+// The moves that a move bars.
 fn barred_by<C: Coupling>(task: &Task, coupling: &C, a: u8) -> IndexSet {
     let mut all = IndexSet::empty();
     for b in 0..task.moves() {
@@ -50,61 +63,116 @@ fn barred_by<C: Coupling>(task: &Task, coupling: &C, a: u8) -> IndexSet {
     all
 }
 
-// The first move of a step that lacks one that it needs.
-fn missing<C: Coupling>(task: &Task, coupling: &C, moves: IndexSet) -> Option<Found> {
+// The first move of a step that needs others than are in it.
+fn missing<'a, C: Coupling>(task: &Task, coupling: &C, moves: IndexSet) -> Option<Found<'a>> {
     for a in 0..task.moves() {
         if moves.contains(a) && lacks(task, coupling, moves, a) {
-            return Some(Found::Missing(a, needed_by(task, coupling, a).difference(moves)));
+            let moves = needed_by(task, coupling, a).difference(moves);
+            return Some(Found::Missing { a, moves });
         }
     }
     None
 }
 
-// The first move of a step that meets one that it bars.
-fn barred<C: Coupling>(task: &Task, coupling: &C, moves: IndexSet) -> Option<Found> {
+// The first move of a step that bars some that are in it.
+fn barred<'a, C: Coupling>(task: &Task, coupling: &C, moves: IndexSet) -> Option<Found<'a>> {
     for a in 0..task.moves() {
         if moves.contains(a) && clashes(task, coupling, moves, a) {
-            return Some(Found::Barred(a, barred_by(task, coupling, a).intersection(moves)));
+            let moves = barred_by(task, coupling, a).intersection(moves);
+            return Some(Found::Barred { a, moves });
         }
     }
     None
 }
 
-// Where the steps of a plan end: the fluents that are true there, and the moves of the step that is refused there, if
-// one is.
-#[derive(Clone, Copy)]
-pub struct Stop {
-    pub line: IndexSet,
-    pub moves: IndexSet,
+// The first move of a step that makes a fluent true, or false.
+fn maker(task: &Task, stop: Stop, fluent: u8, value: bool) -> Option<u8> {
+    for a in 0..task.moves() {
+        let results = task.results(a, stop.line, stop.moves);
+        let named = if value { results.plain } else { results.negated };
+        if stop.moves.contains(a) && named.contains(fluent) {
+            return Some(a);
+        }
+    }
+    None
 }
 
-// What a question about the line finds where the steps end.
-pub fn on_line<C: Coupling>(
+// The first fluent that the moves of a step make true and false.
+fn torn<'a>(task: &Task, stop: Stop) -> Option<Found<'a>> {
+    let changes = joint_changes(task, stop.line, stop.moves);
+    for fluent in 0..task.fluents() {
+        if changes.made.contains(fluent) && changes.unmade.contains(fluent) {
+            let by = maker(task, stop, fluent, true)?;
+            let but = maker(task, stop, fluent, false)?;
+            return Some(Found::Torn { fluent, by, but });
+        }
+    }
+    None
+}
+
+// What a question finds where the steps of a plan end.
+pub fn on_line<'a, C: Coupling>(
     task: &Task,
     coupling: &C,
     question: Question,
     stop: Stop,
-) -> Option<Found> {
+) -> Option<Found<'a>> {
     match question {
-        Question::Needs => unready(task, stop.line, stop.moves),
+        Question::Needs => unready(task, stop),
         Question::Present => missing(task, coupling, stop.moves),
         Question::Absent => barred(task, coupling, stop.moves),
-        Question::Agree => {
-            let changes = joint_changes(task, stop.line, stop.moves);
-            Some(Found::Torn(changes.made.intersection(changes.unmade)))
-        }
+        Question::Agree => torn(task, stop),
         Question::Goal => Some(Found::Short(unmet(task.goal(), stop.line))),
         _ => None,
     }
 }
 
-// What a question about a file finds at its place.
-pub fn in_file(file: &[u8], refusal: Refusal) -> Option<Found> {
-    if refusal.question == Question::Limit {
-        return None;
+// The first operand of a STEP that is no move.
+fn unknown<'a>(task: &Task, operands: &[u8]) -> Option<Found<'a>> {
+    for (station, b) in operands.iter().enumerate() {
+        if *b != NONE && *b >= task.moves() {
+            let operand = *b;
+            return Some(Found::NoMove { station, operand });
+        }
     }
-    match file.get(refusal.place) {
-        Some(b) => Some(Found::Byte(*b)),
-        None => Some(Found::End),
+    None
+}
+
+// The first operand of a STEP that is a move of another station.
+fn foreign<'a>(task: &Task, operands: &[u8]) -> Option<Found<'a>> {
+    for (station, b) in operands.iter().enumerate() {
+        if let Some(own) = task.station(*b) {
+            if own as usize != station {
+                return Some(Found::Foreign { station, a: *b, own });
+            }
+        }
+    }
+    None
+}
+
+// What a question about the form of a file finds at its place.
+pub fn in_file<'a>(file: &'a [u8], source: Source, refusal: Refusal) -> Option<Found<'a>> {
+    let most = match (refusal.question, source) {
+        (Question::Limit, _) => return None,
+        (_, Source::Task) => 4,
+        (_, Source::Plan) => 17,
+    };
+    let rest = file.get(refusal.place..)?;
+    if rest.is_empty() {
+        return Some(Found::End);
+    }
+    Some(Found::Bytes(rest.get(0..most).unwrap_or(rest)))
+}
+
+// What a question about the form of a plan finds in the STEP at its place.
+pub fn in_plan<'a>(task: &Task, file: &'a [u8], refusal: Refusal) -> Option<Found<'a>> {
+    let operands = match in_file(file, Source::Plan, refusal) {
+        Some(Found::Bytes([_, operands @ ..])) => operands,
+        other => return other,
+    };
+    match refusal.question {
+        Question::Range => unknown(task, operands),
+        Question::Station => foreign(task, operands),
+        _ => in_file(file, Source::Plan, refusal),
     }
 }

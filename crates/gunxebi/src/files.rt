@@ -1,6 +1,6 @@
 // Reading the files that are named on the command line.
-use crate::trouble::Trouble;
-use crate::trouble::TroubleFromAlloc;
+use crate::ending::Trouble;
+use crate::ending::TroubleFromAlloc;
 use std::fs::File;
 use std::io;
 use std::io::Read;

@@ -3,6 +3,7 @@
 mod args;
 mod batch;
 mod causes;
+mod ending;
 mod files;
 mod flaw;
 mod hex;
@@ -11,16 +12,16 @@ mod refused;
 mod request;
 mod show;
 mod text;
-mod trouble;
+mod verdict;
 mod words;
 
 use args::Command;
 use batch::answer_all;
-use show::Verdict;
+use ending::Ended;
+use ending::Trouble;
+use ending::TroubleDisplay;
+use ending::TroubleFromIo;
 use show::judge;
-use trouble::Trouble;
-use trouble::TroubleDisplay;
-use trouble::TroubleFromIo;
 
 const USAGE: &str = "gunxebi judges plans for the changeover of a packaging line.
 
@@ -41,7 +42,7 @@ const PLAN: &str = "examples/tray-lift/both.plan";
 #[derive(Clone, Copy)]
 struct Failed;
 
-fn run(rt: &LibcRuntime) -> Result<Verdict, Trouble> {
+fn run(rt: &LibcRuntime) -> Result<Ended, Trouble> {
     match args::read(rt)? {
         Command::Example => {
             println!(rt, "{USAGE}\nThe tray lift: gunxebi judge {TASK} {PLAN}\n")?;
@@ -50,19 +51,19 @@ fn run(rt: &LibcRuntime) -> Result<Verdict, Trouble> {
         Command::Judge { task, plan } => judge(rt, task.as_str(), plan.as_str()),
         Command::Batch => {
             answer_all(rt)?;
-            Ok(Verdict::Solves)
+            Ok(Ended::Well)
         }
         Command::Help => {
             rt.print(USAGE)?;
-            Ok(Verdict::Solves)
+            Ok(Ended::Well)
         }
     }
 }
 
 fn main(rt: LibcRuntime) -> Result<(), Failed> {
     match run(&rt) {
-        Ok(Verdict::Solves) => Ok(()),
-        Ok(Verdict::Refused) => Err(Failed),
+        Ok(Ended::Well) => Ok(()),
+        Ok(Ended::Refused) => Err(Failed),
         Err(trouble) => {
             let _ = eprintln!(rt, "gunxebi: {trouble}");
             Err(Failed)

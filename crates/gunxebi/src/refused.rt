@@ -3,6 +3,7 @@ use crate::words::Count;
 use crate::words::CountDisplay;
 use crate::words::List;
 use crate::words::ListDisplay;
+use crate::words::plain;
 use refusals::Layer;
 use refusals::Question;
 use refusals::Refusal;
@@ -34,16 +35,14 @@ pub enum Source {
 
 pub impl fmt::Display for Source as SourceDisplay {
     fn fmt<W: fmt::Write>(&self, f: &mut fmt::Formatter<W>) -> fmt::Result {
-        f.write_str(
-            match *self {
-                Source::Task => "task file",
-                Source::Plan => "plan file",
-            },
-        )
+        match *self {
+            Source::Task => f.write_str("task file"),
+            Source::Plan => f.write_str("plan file"),
+        }
     }
 }
 
-// What was asked and answered no, of a file or of a step.
+// What was asked and answered no, of a file or of the line.
 #[derive(Clone, Copy)]
 pub struct Asked {
     pub refusal: Refusal,
@@ -54,92 +53,80 @@ pub impl fmt::Display for Asked as AskedDisplay {
     fn fmt<W: fmt::Write>(&self, f: &mut fmt::Formatter<W>) -> fmt::Result {
         let place = self.refusal.place;
         let source = self.source;
+        let steps = Count(place, "step");
         match self.refusal.question {
             Question::Limit => write!(f, "the {source} has more bytes than its limit"),
-            Question::Command => {
-                write!(f, "no known command with all its operands stands at offset {place} of the {source}")
-            }
-            Question::Order => {
-                write!(f, "the command at offset {place} of the {source} is out of order")
-            }
-            Question::Range => {
-                write!(f, "an operand of the command at offset {place} of the {source} is out of range")
-            }
-            Question::New => {
-                write!(f, "the fluent or move at offset {place} of the {source} is in its list already")
-            }
-            Question::Effects => {
-                write!(f, "the EFFECT at offset {place} of the {source} is the ninth of its move")
-            }
-            Question::Station => {
-                write!(f, "the STEP at offset {place} of the {source} has a move at a station that is not its own")
-            }
+            Question::Command => write!(f, "no known command with all its operands stands at offset {place} of the {source}"),
+            Question::Order => write!(f, "the command at offset {place} of the {source} is out of order"),
+            Question::Range => write!(f, "an operand of the command at offset {place} of the {source} is out of range"),
+            Question::New => write!(f, "the fluent or move at offset {place} of the {source} is in its list already"),
+            Question::Effects => write!(f, "the EFFECT at offset {place} of the {source} is the ninth of its move"),
+            Question::Station => write!(f, "the STEP at offset {place} of the {source} has a move at a station that is not its own"),
             Question::Needs => write!(f, "the needs of a move of step {place} do not hold"),
-            Question::Present => {
-                write!(f, "a move of step {place} needs a move that is not in the step")
-            }
+            Question::Present => write!(f, "a move of step {place} needs a move that is not in the step"),
             Question::Absent => write!(f, "a move of step {place} bars a move that is in the step"),
             Question::Agree => write!(f, "the results of step {place} name a fluent both ways"),
-            Question::Goal => {
-                let steps = Count(place, "step");
-                write!(f, "the goal is not met after {steps}")
-            }
+            Question::Goal => write!(f, "the goal is not met after {steps}"),
         }
+    }
+}
+
+// Bytes of a file, as in docs/FORMATS.md: "04 00 0F".
+#[derive(Clone, Copy)]
+struct Bytes<'a>(&'a [u8]);
+
+pub impl<'a> fmt::Display for Bytes<'a> as BytesDisplay {
+    fn fmt<W: fmt::Write>(&self, f: &mut fmt::Formatter<W>) -> fmt::Result {
+        for (i, b) in self.0.iter().enumerate() {
+            let gap = if i == 0 { "" } else { " " };
+            write!(f, "{gap}{b:02X}")?;
+        }
+        Ok(())
     }
 }
 
 // What stands in the way of a yes.
 #[derive(Clone, Copy)]
-pub enum Found {
-    // This byte stands at the place of the refusal.
-    Byte(u8),
+pub enum Found<'a> {
     // The file ends at the place of the refusal.
     End,
-    // Needs of a move that do not hold.
-    Unmet(u8, Literals),
-    // Moves that a move needs, and that are not in the step.
-    Missing(u8, IndexSet),
-    // Moves that a move bars, and that are in the step.
-    Barred(u8, IndexSet),
-    // Fluents that are named both ways.
-    Torn(IndexSet),
-    // Goal literals that do not hold.
+    // The bytes at the place of the refusal.
+    Bytes(&'a [u8]),
+    // The operand of a station is no move.
+    NoMove { station: usize, operand: u8 },
+    // The operand of a station is a move of another one.
+    Foreign { station: usize, a: u8, own: u8 },
+    // Needs of a move do not hold.
+    Unmet { a: u8, needs: Literals },
+    // A move needs moves that are not in the step.
+    Missing { a: u8, moves: IndexSet },
+    // A move bars moves that are in the step.
+    Barred { a: u8, moves: IndexSet },
+    // One move makes a fluent true that another makes false.
+    Torn { fluent: u8, by: u8, but: u8 },
+    // Goal literals do not hold.
     Short(Literals),
 }
 
-pub impl fmt::Display for Found as FoundDisplay {
+pub impl<'a> fmt::Display for Found<'a> as FoundDisplay {
     fn fmt<W: fmt::Write>(&self, f: &mut fmt::Formatter<W>) -> fmt::Result {
         match *self {
-            Found::Byte(b) => write!(f, "the byte {b:02X} stands there"),
-            Found::End => f.write_str("the file ends there"),
-            Found::Unmet(a, literals) => {
-                let needs = List::fluents(literals);
-                write!(f, "move {a} needs {needs}")
+            Found::End => f.write_str("the end of the file"),
+            Found::Bytes(bytes) => write!(f, "{}", Bytes(bytes)),
+            Found::NoMove { station, operand } => {
+                write!(f, "the operand of station {station} is {operand:02X}, which is no move")
             }
-            Found::Missing(a, moves) => {
-                let needed = List::moves(plain(moves));
-                write!(f, "move {a} needs {needed}")
+            Found::Foreign { station, a, own } => {
+                write!(f, "the operand of station {station} is move {a}, a move of station {own}")
             }
-            Found::Barred(a, moves) => {
-                let barred = List::moves(plain(moves));
-                write!(f, "move {a} bars {barred}")
+            Found::Unmet { a, needs } => write!(f, "move {a} needs {}", List::fluents(needs)),
+            Found::Missing { a, moves } => write!(f, "move {a} needs {}", List::moves(plain(moves))),
+            Found::Barred { a, moves } => write!(f, "move {a} bars {}", List::moves(plain(moves))),
+            Found::Torn { fluent, by, but } => {
+                write!(f, "move {by} makes fluent {fluent} true, move {but} makes it false")
             }
-            Found::Torn(fluents) => {
-                let torn = List::fluents(plain(fluents));
-                write!(f, "{torn}, made true and made false")
-            }
-            Found::Short(literals) => {
-                let goal = List::fluents(literals);
-                write!(f, "{goal} does not hold")
-            }
+            Found::Short(goal) => write!(f, "not met: {}", List::fluents(goal)),
         }
-    }
-}
-
-fn plain(set: IndexSet) -> Literals {
-    Literals {
-        plain: set,
-        negated: IndexSet::empty(),
     }
 }
 

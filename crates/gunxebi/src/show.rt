@@ -1,6 +1,7 @@
 // Judging a plan for a task, shown step by step. The sequencer gives the verdict; the steps are shown beside it.
 use crate::causes::Stop;
 use crate::causes::in_file;
+use crate::causes::in_plan;
 use crate::causes::on_line;
 use crate::files::read_file;
 use crate::refused::Asked;
@@ -11,9 +12,11 @@ use crate::refused::InShort;
 use crate::refused::InShortDisplay;
 use crate::refused::Source;
 use crate::refused::hint;
-use crate::trouble::Trouble;
-use crate::trouble::TroubleFromAlloc;
-use crate::trouble::TroubleFromIo;
+use crate::ending::Ended;
+use crate::ending::Trouble;
+use crate::ending::TroubleFromAlloc;
+use crate::ending::TroubleFromIo;
+use crate::verdict::judge_written;
 use crate::words::Count;
 use crate::words::CountDisplay;
 use crate::words::List;
@@ -22,25 +25,18 @@ use crate::words::StepDisplay;
 use crate::words::StepInWords;
 use crate::words::TaskDisplay;
 use crate::words::TaskInWords;
+use crate::words::plain;
 use coupling::Written;
 use coupling::WrittenCoupling;
 use plan::read_joint;
 use refusals::Fault;
 use refusals::Layer;
 use refusals::Refusal;
-use sequencer::judge_joint_plan;
 use sets::IndexSet;
 use step::Step;
 use step::step_from;
 use task::Literals;
 use task::Task;
-
-// What a plan came to.
-#[derive(Clone, Copy)]
-pub enum Verdict {
-    Solves,
-    Refused,
-}
 
 // What a step changes: the fluents that become true, and those that become false.
 fn changes(before: IndexSet, after: IndexSet) -> Literals {
@@ -59,7 +55,7 @@ fn show_steps(
 ) -> Result<Stop, Trouble> {
     let mut line = task.start();
     let count = Count(steps.len(), "step");
-    let start = List::all(line);
+    let start = List::fluents(plain(line));
     println!(rt, "plan: {count}\n  true at the start: {start}")?;
     for (i, step) in steps.iter().enumerate() {
         let words = StepInWords(*step);
@@ -70,7 +66,7 @@ fn show_steps(
             return Ok(Stop { line, moves });
         };
         let changed = List::fluents(changes(line, after));
-        let holding = List::all(after);
+        let holding = List::fluents(plain(after));
         println!(rt, "    changed: {changed}\n    true after: {holding}")?;
         line = after;
     }
@@ -78,26 +74,31 @@ fn show_steps(
     Ok(Stop { line, moves })
 }
 
-// Says why there is no solution.
+// Says why a plan does not solve.
 fn refuse(
     rt: &LibcRuntime,
     refusal: Refusal,
     source: Source,
-    found: Option<Found>,
-) -> Result<Verdict, Trouble> {
+    found: Option<Found<'_>>,
+) -> Result<Ended, Trouble> {
     let short = InShort(refusal);
     let asked = Asked { refusal, source };
+    let hint = hint(refusal.question, source);
     println!(rt, "{short}: {asked}")?;
     if let Some(found) = found {
         println!(rt, "found: {found}")?;
     }
-    let hint = hint(refusal.question, source);
     println!(rt, "hint: {hint}")?;
-    Ok(Verdict::Refused)
+    Ok(Ended::Refused)
 }
 
-// Judges a plan for a task, after its steps.
-fn judge_plan(rt: &LibcRuntime, task: &Task, file: &[u8]) -> Result<Verdict, Trouble> {
+// Shows the plan, and then the verdict on it.
+fn show_plan(
+    rt: &LibcRuntime,
+    task: &Task,
+    file: &[u8],
+    verdict: Result<(), Fault>,
+) -> Result<Ended, Trouble> {
     let heap = rt.alloc();
     let coupling = Written::new(heap, task)?;
     let mut stop = Stop {
@@ -107,14 +108,14 @@ fn judge_plan(rt: &LibcRuntime, task: &Task, file: &[u8]) -> Result<Verdict, Tro
     if let Ok(steps) = read_joint(heap, task, file) {
         stop = show_steps(rt, task, &coupling, &steps)?;
     }
-    match judge_joint_plan(heap, task, &coupling, file) {
+    match verdict {
         Ok(()) => {
             println!(rt, "solves: each step is allowed, and the goal is met at the end")?;
-            Ok(Verdict::Solves)
+            Ok(Ended::Well)
         }
         Err(Fault::Refused(refusal)) => {
             let found = match refusal.question.layer() {
-                Layer::Form => in_file(file, refusal),
+                Layer::Form => in_plan(task, file, refusal),
                 Layer::Run => on_line(task, &coupling, refusal.question, stop),
             };
             refuse(rt, refusal, Source::Plan, found)
@@ -123,19 +124,22 @@ fn judge_plan(rt: &LibcRuntime, task: &Task, file: &[u8]) -> Result<Verdict, Tro
     }
 }
 
-// Judges a plan file for a task file.
-pub fn judge(rt: &LibcRuntime, task_path: &str, plan_path: &str) -> Result<Verdict, Trouble> {
+// Judges the plan in one file for the task in another, and shows both.
+pub fn judge(rt: &LibcRuntime, task_path: &str, plan_path: &str) -> Result<Ended, Trouble> {
+    let heap = rt.alloc();
     let task_file = read_file(rt, task_path)?;
     let plan_file = read_file(rt, plan_path)?;
-    match Task::read(rt.alloc(), &task_file) {
-        Ok(task) => {
+    let verdict = judge_written(heap, &task_file, &plan_file);
+    match (Task::read(heap, &task_file), verdict) {
+        (Ok(task), verdict) => {
             let words = TaskInWords(&task);
             print!(rt, "{words}")?;
-            judge_plan(rt, &task, &plan_file)
+            show_plan(rt, &task, &plan_file, verdict)
         }
-        Err(Fault::Refused(refusal)) => {
-            refuse(rt, refusal, Source::Task, in_file(&task_file, refusal))
+        (Err(_), Err(Fault::Refused(refusal))) => {
+            let found = in_file(&task_file, Source::Task, refusal);
+            refuse(rt, refusal, Source::Task, found)
         }
-        Err(Fault::Memory) => Err(Trouble::Memory),
+        (Err(_), _) => Err(Trouble::Memory),
     }
 }

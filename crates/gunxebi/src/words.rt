@@ -19,6 +19,14 @@ pub impl fmt::Display for Count as CountDisplay {
     }
 }
 
+// The numbers of a set, each as a plain literal.
+pub fn plain(set: IndexSet) -> Literals {
+    Literals {
+        plain: set,
+        negated: IndexSet::empty(),
+    }
+}
+
 // Literals of fluents or of moves: "fluent 2, not fluent 3", or "none".
 #[derive(Clone, Copy)]
 pub struct List {
@@ -39,14 +47,6 @@ impl List {
             kind: "move",
             literals,
         }
-    }
-
-    // The fluents of a set.
-    pub fn all(set: IndexSet) -> List {
-        List::fluents(Literals {
-            plain: set,
-            negated: IndexSet::empty(),
-        })
     }
 
     fn is_empty(&self) -> bool {
@@ -129,7 +129,7 @@ pub impl<'a> fmt::Display for TaskInWords<'a> as TaskDisplay {
         let stations = Count(task.stations() as usize, "station");
         let fluents = Count(task.fluents() as usize, "fluent");
         let moves = Count(task.moves() as usize, "move");
-        let start = List::all(task.start());
+        let start = List::fluents(plain(task.start()));
         let goal = List::fluents(task.goal());
         write!(f, "task: {stations}, {fluents}, {moves}\n  start: {start}\n  goal: {goal}\n")?;
         for a in 0..task.moves() {

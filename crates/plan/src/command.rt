@@ -3,7 +3,7 @@ ghost use mathlib.Core.Path.{_≡_};
 ghost use Prim.Native.Nat.{_<_};
 ghost use lib.ListN.{length};
 ghost use Rattle.std.specs.Vec.{made};
-ghost use Rattle.task.specs.Form.{Asked};
+ghost use Rattle.refusals.specs.Answers.{Asked};
 ghost use Rattle.plan.specs.Commands.{first, taken};
 use refusals::Question;
 use refusals::Refusal;

@@ -17,7 +17,7 @@ use Rattle.refusals.specs.Numbers.{question}
 use Rattle.model.specs.Sets.{Set}
 use Rattle.model.specs.Line.{Line, Coupling}
 use Rattle.model.specs.Joint.{refused, after}
-use Rattle.task.specs.Form.{Within}
+use Rattle.refusals.specs.Answers.{Within}
 use Rattle.task.specs.Views.{line-of}
 use Rattle.task.specs.declared.task.Task.{Task}
 use Rattle.step.specs.Operands.{named}

@@ -1,4 +1,1 @@
-pub mod Lits
-pub mod Fits
-pub mod Gathered
 pub mod Looked

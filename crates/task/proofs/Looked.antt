@@ -17,9 +17,9 @@ use Rattle.model.specs.Sets.{Set, none, subset, apart, no-literals, holds}
 use Rattle.model.specs.Task as model
 use Rattle.model.specs.Task.{move-at, no-move}
 use Rattle.sets.proofs.Laws.{decides-subset, decides-apart}
-use Rattle.task.specs.Parts.{move-of}
+use Rattle.moves.specs.Parts.{move-of}
 use Rattle.task.specs.Views.{task-of}
-use Rattle.task.specs.declared.parts.Move.{Move}
+use Rattle.moves.specs.declared.parts.Move.{Move}
 use Rattle.task.specs.declared.task.Task.{Task}
 
 -- the task has as many moves as its sizes say

@@ -1,5 +1,1 @@
-pub mod Lists
-pub mod Commands
-pub mod Parts
 pub mod Views
-pub mod Form

@@ -4,8 +4,8 @@ use Rattle.std.specs.Of.Vec.{vec-items}
 use Rattle.model.specs.Line.{Line}
 use Rattle.model.specs.Task as model
 use Rattle.sets.specs.Members.{members}
-use Rattle.task.specs.Lists.{literals-of}
-use Rattle.task.specs.Parts.{move-of}
+use Rattle.moves.specs.Lists.{literals-of}
+use Rattle.moves.specs.Parts.{move-of}
 use Rattle.task.specs.declared.task.Task.{Task}
 
 abbrev pub task-of : Task → model.Task

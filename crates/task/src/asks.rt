@@ -1,44 +1,19 @@
 // What a task answers: each answer is that of the line that it describes.
 ghost use mathlib.Core.Path.{_≡_};
-ghost use mathlib.Core.Bool.{cond, true, false};
+ghost use mathlib.Core.Bool.{cond};
 ghost use Prim.Native.Nat.{ℕ, _≤_, _<_};
 ghost use lib.Dec.{ltb};
 ghost use Rattle.std.specs.declared.option.Option.the-variants.{Some, None};
 ghost use Rattle.std.specs.Options.{Cases as BySome};
-ghost use Rattle.model.specs.Task.{move-at, triggered as is-triggered, results as all-results};
+ghost use Rattle.model.specs.Task.{move-at};
 ghost use Rattle.sets.specs.Members.{members};
-ghost use Rattle.task.specs.Lists.{literals-of};
-ghost use Rattle.task.specs.Parts.{effect-of, move-of};
+ghost use Rattle.moves.specs.Lists.{literals-of};
+ghost use Rattle.moves.specs.Parts.{move-of};
 ghost use Rattle.task.specs.Views.{task-of, line-of};
-use crate::lists::Literals;
-use crate::parts::Effect;
-use crate::parts::Move;
 use crate::task::Task;
+use moves::Literals;
+use moves::Move;
 use sets::IndexSet;
-
-impl Effect {
-    // Is it triggered in a step with these moves, with `line` before it?
-    pub fn triggered(self, line: IndexSet, moves: IndexSet) -> bool
-        ensures { λ r. ⌜ r ≡ is-triggered (effect-of self) (members line) (members moves) ⌝ }
-    {
-        self.conditions.hold(line) && self.alongside.hold(moves)
-    }
-}
-
-impl Move {
-    // The results of its triggered effects.
-    pub fn results(&self, line: IndexSet, moves: IndexSet) -> Literals
-        ensures { λ r. ⌜ literals-of r ≡ all-results (move-of (now (self .entry)) .effects) (members line) (members moves) ⌝ }
-    {
-        let mut all = Literals::empty();
-        for effect in &self.effects {
-            if effect.triggered(line, moves) {
-                all = all.union(effect.results);
-            }
-        }
-        all
-    }
-}
 
 impl Task {
     pub fn stations(&self) -> u8

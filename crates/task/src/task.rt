@@ -1,29 +1,7 @@
-// What a task file names, and the task that it makes. What holds of every one stands in the ghost fields.
+// The type of a task.
 ghost use mathlib.Core.Path.{_≡_};
-ghost use mathlib.Core.Bool.{true};
-ghost use mathlib.Core.List.{map};
-ghost use Rattle.std.specs.Of.Vec.{vec-len, vec-items};
-ghost use Rattle.model.specs.Sets.{subset, below, within};
-ghost use Rattle.model.specs.Task.{moves-fit};
-ghost use Rattle.sets.specs.Members.{members};
-ghost use Rattle.task.specs.Lists.{literals-of};
-ghost use Rattle.task.specs.Parts.{move-of};
-use crate::lists::Literals;
-use crate::parts::Move;
-use crate::parts::Sizes;
-use sets::IndexSet;
-
-// The lists of a task file, as far as they have been read. The moves are those that are complete.
-#[derive(Drop)]
-pub struct Lists {
-    pub(crate) sizes: Sizes,
-    pub(crate) start: IndexSet,
-    pub(crate) goal: Literals,
-    pub(crate) moves: Vec<Move>,
-    ghost begun: { subset (members start) (below (sizes .fluents)) ≡ true },
-    ghost aimed: { within (sizes .fluents) (literals-of goal) ≡ true },
-    ghost fitting: { moves-fit (sizes .stations) (sizes .fluents) (sizes .moves) (map move-of (vec-items moves)) ≡ true },
-}
+ghost use Rattle.std.specs.Of.Vec.{vec-len};
+use task_file::Lists;
 
 // The task of a line. Only reading a file makes one.
 #[derive(Drop)]
