@@ -40,11 +40,7 @@ fn judge(
 }
 
 // A command that takes no more arguments.
-fn alone(
-    command: Command,
-    more: Option<String>,
-    usage: &'static str,
-) -> Result<Command, Trouble> {
+fn alone(command: Command, more: Option<String>, usage: &'static str) -> Result<Command, Trouble> {
     match more {
         None => Ok(command),
         Some(_) => Err(Trouble::WrongArguments(usage)),

@@ -1,4 +1,6 @@
 // Requests from standard input, answered on standard output line by line.
+use crate::ending::Trouble;
+use crate::ending::TroubleFromIo;
 use crate::flaw::Flaw;
 use crate::flaw::FlawDisplay;
 use crate::hex;
@@ -8,8 +10,6 @@ use crate::refused::InShort;
 use crate::refused::InShortDisplay;
 use crate::request;
 use crate::verdict::judge_written;
-use crate::ending::Trouble;
-use crate::ending::TroubleFromIo;
 use refusals::Fault;
 use refusals::Refusal;
 use std::alloc::Global;

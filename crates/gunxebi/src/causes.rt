@@ -1,15 +1,16 @@
 // What a refusal is about: the bytes of a file, or a move and what it lacks on the line.
 use crate::refused::Found;
-use crate::refused::Source;
 use coupling::Coupling;
+use moves::Literals;
 use refusals::Question;
+use refusals::QuestionPartialEq;
 use refusals::Refusal;
 use sets::IndexSet;
 use step::clashes;
 use step::joint_changes;
 use step::lacks;
-use task::Literals;
 use task::Task;
+use task_file::next;
 
 // The operand of a station without a move.
 const NONE: u8 = 0xff;
@@ -31,7 +32,7 @@ fn unmet(literals: Literals, set: IndexSet) -> Literals {
 }
 
 // The first move of a step whose needs do not hold.
-fn unready<'a>(task: &Task, stop: Stop) -> Option<Found<'a>> {
+fn unready(task: &Task, stop: Stop) -> Option<Found> {
     for a in 0..task.moves() {
         if stop.moves.contains(a) && !task.ready(a, stop.line) {
             let needs = unmet(task.get(a)?.needs, stop.line);
@@ -64,7 +65,7 @@ fn barred_by<C: Coupling>(task: &Task, coupling: &C, a: u8) -> IndexSet {
 }
 
 // The first move of a step that needs others than are in it.
-fn missing<'a, C: Coupling>(task: &Task, coupling: &C, moves: IndexSet) -> Option<Found<'a>> {
+fn missing<C: Coupling>(task: &Task, coupling: &C, moves: IndexSet) -> Option<Found> {
     for a in 0..task.moves() {
         if moves.contains(a) && lacks(task, coupling, moves, a) {
             let moves = needed_by(task, coupling, a).difference(moves);
@@ -75,7 +76,7 @@ fn missing<'a, C: Coupling>(task: &Task, coupling: &C, moves: IndexSet) -> Optio
 }
 
 // The first move of a step that bars some that are in it.
-fn barred<'a, C: Coupling>(task: &Task, coupling: &C, moves: IndexSet) -> Option<Found<'a>> {
+fn barred<C: Coupling>(task: &Task, coupling: &C, moves: IndexSet) -> Option<Found> {
     for a in 0..task.moves() {
         if moves.contains(a) && clashes(task, coupling, moves, a) {
             let moves = barred_by(task, coupling, a).intersection(moves);
@@ -89,7 +90,11 @@ fn barred<'a, C: Coupling>(task: &Task, coupling: &C, moves: IndexSet) -> Option
 fn maker(task: &Task, stop: Stop, fluent: u8, value: bool) -> Option<u8> {
     for a in 0..task.moves() {
         let results = task.results(a, stop.line, stop.moves);
-        let named = if value { results.plain } else { results.negated };
+        let named = if value {
+            results.plain
+        } else {
+            results.negated
+        };
         if stop.moves.contains(a) && named.contains(fluent) {
             return Some(a);
         }
@@ -98,7 +103,7 @@ fn maker(task: &Task, stop: Stop, fluent: u8, value: bool) -> Option<u8> {
 }
 
 // The first fluent that the moves of a step make true and false.
-fn torn<'a>(task: &Task, stop: Stop) -> Option<Found<'a>> {
+fn torn(task: &Task, stop: Stop) -> Option<Found> {
     let changes = joint_changes(task, stop.line, stop.moves);
     for fluent in 0..task.fluents() {
         if changes.made.contains(fluent) && changes.unmade.contains(fluent) {
@@ -111,12 +116,12 @@ fn torn<'a>(task: &Task, stop: Stop) -> Option<Found<'a>> {
 }
 
 // What a question finds where the steps of a plan end.
-pub fn on_line<'a, C: Coupling>(
+pub fn on_line<C: Coupling>(
     task: &Task,
     coupling: &C,
     question: Question,
     stop: Stop,
-) -> Option<Found<'a>> {
+) -> Option<Found> {
     match question {
         Question::Needs => unready(task, stop),
         Question::Present => missing(task, coupling, stop.moves),
@@ -128,7 +133,7 @@ pub fn on_line<'a, C: Coupling>(
 }
 
 // The first operand of a STEP that is no move.
-fn unknown<'a>(task: &Task, operands: &[u8]) -> Option<Found<'a>> {
+fn unknown(task: &Task, operands: &[u8]) -> Option<Found> {
     for (station, b) in operands.iter().enumerate() {
         if *b != NONE && *b >= task.moves() {
             let operand = *b;
@@ -139,40 +144,52 @@ fn unknown<'a>(task: &Task, operands: &[u8]) -> Option<Found<'a>> {
 }
 
 // The first operand of a STEP that is a move of another station.
-fn foreign<'a>(task: &Task, operands: &[u8]) -> Option<Found<'a>> {
+fn foreign(task: &Task, operands: &[u8]) -> Option<Found> {
     for (station, b) in operands.iter().enumerate() {
         if let Some(own) = task.station(*b) {
             if own as usize != station {
-                return Some(Found::Foreign { station, a: *b, own });
+                return Some(Found::Foreign {
+                    station,
+                    a: *b,
+                    own,
+                });
             }
         }
     }
     None
 }
 
-// What a question about the form of a file finds at its place.
-pub fn in_file<'a>(file: &'a [u8], source: Source, refusal: Refusal) -> Option<Found<'a>> {
-    let most = match (refusal.question, source) {
-        (Question::Limit, _) => return None,
-        (_, Source::Task) => 4,
-        (_, Source::Plan) => 17,
-    };
-    let rest = file.get(refusal.place..)?;
-    if rest.is_empty() {
-        return Some(Found::End);
+// What stands at an offset of a file.
+fn byte(file: &[u8], offset: usize) -> Found {
+    match file.get(offset) {
+        Some(b) => Found::Byte(*b),
+        None => Found::End,
     }
-    Some(Found::Bytes(rest.get(0..most).unwrap_or(rest)))
 }
 
-// What a question about the form of a plan finds in the STEP at its place.
-pub fn in_plan<'a>(task: &Task, file: &'a [u8], refusal: Refusal) -> Option<Found<'a>> {
-    let operands = match in_file(file, Source::Plan, refusal) {
-        Some(Found::Bytes([_, operands @ ..])) => operands,
-        other => return other,
-    };
+// What a question about the form of a task finds at its place.
+pub fn in_task(file: &[u8], refusal: Refusal) -> Option<Found> {
+    if refusal.question == Question::Limit {
+        return None;
+    }
+    match next(file.get(refusal.place..)?, refusal.place) {
+        Ok((command, _)) => Some(Found::Command(command)),
+        Err(_) => Some(byte(file, refusal.place)),
+    }
+}
+
+// The operands of the STEP at an offset.
+fn operands(file: &[u8], offset: usize) -> Option<&[u8]> {
+    let rest = file.get(offset..)?;
+    rest.get(1..17)
+}
+
+// What a question about the form of a plan finds at its place.
+pub fn in_plan(task: &Task, file: &[u8], refusal: Refusal) -> Option<Found> {
     match refusal.question {
-        Question::Range => unknown(task, operands),
-        Question::Station => foreign(task, operands),
-        _ => in_file(file, Source::Plan, refusal),
+        Question::Limit => None,
+        Question::Range => unknown(task, operands(file, refusal.place)?),
+        Question::Station => foreign(task, operands(file, refusal.place)?),
+        _ => Some(byte(file, refusal.place)),
     }
 }

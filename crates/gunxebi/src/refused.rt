@@ -1,15 +1,18 @@
 // A refusal in words: what was asked, what was found there, and what to do.
+use crate::words::CommandDisplay;
+use crate::words::CommandInWords;
 use crate::words::Count;
 use crate::words::CountDisplay;
 use crate::words::List;
 use crate::words::ListDisplay;
 use crate::words::plain;
+use moves::Literals;
 use refusals::Layer;
 use refusals::Question;
 use refusals::Refusal;
 use sets::IndexSet;
 use std::fmt;
-use task::Literals;
+use task_file::Command;
 
 // A refusal in short: "refused 12 run 1".
 #[derive(Clone, Copy)]
@@ -42,6 +45,21 @@ pub impl fmt::Display for Source as SourceDisplay {
     }
 }
 
+// A place in a file.
+#[derive(Clone, Copy)]
+struct Offset {
+    place: usize,
+    source: Source,
+}
+
+pub impl fmt::Display for Offset as OffsetDisplay {
+    fn fmt<W: fmt::Write>(&self, f: &mut fmt::Formatter<W>) -> fmt::Result {
+        let place = self.place;
+        let source = self.source;
+        write!(f, "at offset {place} of the {source}")
+    }
+}
+
 // What was asked and answered no, of a file or of the line.
 #[derive(Clone, Copy)]
 pub struct Asked {
@@ -53,45 +71,34 @@ pub impl fmt::Display for Asked as AskedDisplay {
     fn fmt<W: fmt::Write>(&self, f: &mut fmt::Formatter<W>) -> fmt::Result {
         let place = self.refusal.place;
         let source = self.source;
+        let at = Offset { place, source };
         let steps = Count(place, "step");
         match self.refusal.question {
             Question::Limit => write!(f, "the {source} has more bytes than its limit"),
-            Question::Command => write!(f, "no known command with all its operands stands at offset {place} of the {source}"),
-            Question::Order => write!(f, "the command at offset {place} of the {source} is out of order"),
-            Question::Range => write!(f, "an operand of the command at offset {place} of the {source} is out of range"),
-            Question::New => write!(f, "the fluent or move at offset {place} of the {source} is in its list already"),
-            Question::Effects => write!(f, "the EFFECT at offset {place} of the {source} is the ninth of its move"),
-            Question::Station => write!(f, "the STEP at offset {place} of the {source} has a move at a station that is not its own"),
+            Question::Command => write!(f, "no command with all its operands stands {at}"),
+            Question::Order => write!(f, "the command {at} is out of order"),
+            Question::Range => write!(f, "an operand of the command {at} is out of range"),
+            Question::New => write!(f, "the fluent or move {at} is in its list already"),
+            Question::Effects => write!(f, "the EFFECT {at} is the ninth of its move"),
+            Question::Station => write!(f, "the STEP {at} has a move of another station"),
             Question::Needs => write!(f, "the needs of a move of step {place} do not hold"),
-            Question::Present => write!(f, "a move of step {place} needs a move that is not in the step"),
-            Question::Absent => write!(f, "a move of step {place} bars a move that is in the step"),
-            Question::Agree => write!(f, "the results of step {place} name a fluent both ways"),
+            Question::Present => write!(f, "a move of step {place} needs one that is not in it"),
+            Question::Absent => write!(f, "a move of step {place} bars one that is in it"),
+            Question::Agree => write!(f, "the results of step {place} do not agree"),
             Question::Goal => write!(f, "the goal is not met after {steps}"),
         }
     }
 }
 
-// Bytes of a file, as in docs/FORMATS.md: "04 00 0F".
-#[derive(Clone, Copy)]
-struct Bytes<'a>(&'a [u8]);
-
-pub impl<'a> fmt::Display for Bytes<'a> as BytesDisplay {
-    fn fmt<W: fmt::Write>(&self, f: &mut fmt::Formatter<W>) -> fmt::Result {
-        for (i, b) in self.0.iter().enumerate() {
-            let gap = if i == 0 { "" } else { " " };
-            write!(f, "{gap}{b:02X}")?;
-        }
-        Ok(())
-    }
-}
-
 // What stands in the way of a yes.
 #[derive(Clone, Copy)]
-pub enum Found<'a> {
+pub enum Found {
     // The file ends at the place of the refusal.
     End,
-    // The bytes at the place of the refusal.
-    Bytes(&'a [u8]),
+    // The byte at the place of the refusal, where no command stands.
+    Byte(u8),
+    // The command of a task file at the place of the refusal.
+    Command(Command),
     // The operand of a station is no move.
     NoMove { station: usize, operand: u8 },
     // The operand of a station is a move of another one.
@@ -108,22 +115,30 @@ pub enum Found<'a> {
     Short(Literals),
 }
 
-pub impl<'a> fmt::Display for Found<'a> as FoundDisplay {
+pub impl fmt::Display for Found as FoundDisplay {
     fn fmt<W: fmt::Write>(&self, f: &mut fmt::Formatter<W>) -> fmt::Result {
         match *self {
             Found::End => f.write_str("the end of the file"),
-            Found::Bytes(bytes) => write!(f, "{}", Bytes(bytes)),
+            Found::Byte(b) => write!(f, "the byte {b:02X}"),
+            Found::Command(command) => write!(f, "{}", CommandInWords(command)),
             Found::NoMove { station, operand } => {
-                write!(f, "the operand of station {station} is {operand:02X}, which is no move")
+                write!(f, "station {station} has {operand:02X}, which is no move")
             }
             Found::Foreign { station, a, own } => {
-                write!(f, "the operand of station {station} is move {a}, a move of station {own}")
+                write!(f, "station {station} has move {a}, a move of station {own}")
             }
             Found::Unmet { a, needs } => write!(f, "move {a} needs {}", List::fluents(needs)),
-            Found::Missing { a, moves } => write!(f, "move {a} needs {}", List::moves(plain(moves))),
+            Found::Missing { a, moves } => write!(
+                f,
+                "move {a} needs {}",
+                List::moves(plain(moves))
+            ),
             Found::Barred { a, moves } => write!(f, "move {a} bars {}", List::moves(plain(moves))),
             Found::Torn { fluent, by, but } => {
-                write!(f, "move {by} makes fluent {fluent} true, move {but} makes it false")
+                write!(
+                    f,
+                    "fluent {fluent} is made true by move {by}, false by move {but}"
+                )
             }
             Found::Short(goal) => write!(f, "not met: {}", List::fluents(goal)),
         }
@@ -133,18 +148,26 @@ pub impl<'a> fmt::Display for Found<'a> as FoundDisplay {
 // What to do about a refusal.
 pub fn hint(question: Question, source: Source) -> &'static str {
     match (question, source) {
-        (Question::Limit, Source::Task) => "make the file shorter; a task file has at most 8,192 bytes",
-        (Question::Limit, Source::Plan) => "cut the plan in two; a plan has at most 256 steps, which are 4,352 bytes",
-        (Question::Command, Source::Task) => "look for an operand too many or too few further up, or for a missing END",
+        (Question::Limit, Source::Task) =>
+            "make the file shorter; a task file has at most 8,192 bytes",
+        (Question::Limit, Source::Plan) =>
+            "cut the plan in two; a plan has at most 256 steps, which are 4,352 bytes",
+        (Question::Command, Source::Task) =>
+            "look for an operand too many or too few further up, or for a missing END",
         (Question::Command, Source::Plan) => "write 31 and sixteen operands for each step",
-        (Question::Order, _) => "compare with the order of commands in docs/FORMATS.md, and count the moves",
+        (Question::Order, _) =>
+            "compare with the order of commands in docs/FORMATS.md, and count the moves",
         (Question::Range, Source::Task) => "compare the operands with SIZES; numbers begin at 0",
-        (Question::Range, Source::Plan) => "name a move that the task has, or FF for none; numbers begin at 0",
+        (Question::Range, Source::Plan) =>
+            "name a move that the task has, or FF for none; numbers begin at 0",
         (Question::New, _) => "take out one of the two; the sign does not matter",
-        (Question::Effects, _) => "join effects that have the same conditions, or divide the move into two",
+        (Question::Effects, _) =>
+            "join effects that have the same conditions, or divide the move into two",
         (Question::Station, _) => "put the move into the operand of its own station",
-        (Question::Needs, _) => "bring the need about in an earlier step; what the step itself does comes too late",
-        (Question::Present, _) => "put the needed move into the step, or take out the move that needs it",
+        (Question::Needs, _) =>
+            "bring the need about in an earlier step; what the step itself does comes too late",
+        (Question::Present, _) =>
+            "put the needed move into the step, or take out the move that needs it",
         (Question::Absent, _) => "put the two moves into different steps",
         (Question::Agree, _) => "put the moves into different steps, or give an effect a condition",
         (Question::Goal, _) => "add steps, or look for the step that made a goal literal false",

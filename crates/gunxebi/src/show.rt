@@ -1,8 +1,12 @@
 // Judging a plan for a task, shown step by step. The sequencer gives the verdict; the steps are shown beside it.
 use crate::causes::Stop;
-use crate::causes::in_file;
 use crate::causes::in_plan;
+use crate::causes::in_task;
 use crate::causes::on_line;
+use crate::ending::Ended;
+use crate::ending::Trouble;
+use crate::ending::TroubleFromAlloc;
+use crate::ending::TroubleFromIo;
 use crate::files::read_file;
 use crate::refused::Asked;
 use crate::refused::AskedDisplay;
@@ -12,10 +16,6 @@ use crate::refused::InShort;
 use crate::refused::InShortDisplay;
 use crate::refused::Source;
 use crate::refused::hint;
-use crate::ending::Ended;
-use crate::ending::Trouble;
-use crate::ending::TroubleFromAlloc;
-use crate::ending::TroubleFromIo;
 use crate::verdict::judge_written;
 use crate::words::Count;
 use crate::words::CountDisplay;
@@ -28,6 +28,7 @@ use crate::words::TaskInWords;
 use crate::words::plain;
 use coupling::Written;
 use coupling::WrittenCoupling;
+use moves::Literals;
 use plan::read_joint;
 use refusals::Fault;
 use refusals::Layer;
@@ -35,7 +36,6 @@ use refusals::Refusal;
 use sets::IndexSet;
 use step::Step;
 use step::step_from;
-use task::Literals;
 use task::Task;
 
 // What a step changes: the fluents that become true, and those that become false.
@@ -79,7 +79,7 @@ fn refuse(
     rt: &LibcRuntime,
     refusal: Refusal,
     source: Source,
-    found: Option<Found<'_>>,
+    found: Option<Found>,
 ) -> Result<Ended, Trouble> {
     let short = InShort(refusal);
     let asked = Asked { refusal, source };
@@ -110,16 +110,19 @@ fn show_plan(
     }
     match verdict {
         Ok(()) => {
-            println!(rt, "solves: each step is allowed, and the goal is met at the end")?;
+            println!(
+                rt,
+                "solves: each step is allowed, and the goal is met at the end"
+            )?;
             Ok(Ended::Well)
         }
-        Err(Fault::Refused(refusal)) => {
-            let found = match refusal.question.layer() {
-                Layer::Form => in_plan(task, file, refusal),
-                Layer::Run => on_line(task, &coupling, refusal.question, stop),
-            };
-            refuse(rt, refusal, Source::Plan, found)
-        }
+        Err(Fault::Refused(refusal)) => match refusal.question.layer() {
+            Layer::Form => refuse(rt, refusal, Source::Plan, in_plan(task, file, refusal)),
+            Layer::Run => {
+                let found = on_line(task, &coupling, refusal.question, stop);
+                refuse(rt, refusal, Source::Plan, found)
+            }
+        },
         Err(Fault::Memory) => Err(Trouble::Memory),
     }
 }
@@ -137,8 +140,7 @@ pub fn judge(rt: &LibcRuntime, task_path: &str, plan_path: &str) -> Result<Ended
             show_plan(rt, &task, &plan_file, verdict)
         }
         (Err(_), Err(Fault::Refused(refusal))) => {
-            let found = in_file(&task_file, Source::Task, refusal);
-            refuse(rt, refusal, Source::Task, found)
+            refuse(rt, refusal, Source::Task, in_task(&task_file, refusal))
         }
         (Err(_), _) => Err(Trouble::Memory),
     }

@@ -1,11 +1,13 @@
 // Tasks and steps in words. Stations, fluents and moves go by their numbers.
+use moves::Effect;
+use moves::Literal;
+use moves::Literals;
+use moves::Move;
 use sets::IndexSet;
 use std::fmt;
 use step::Step;
-use task::Effect;
-use task::Literals;
-use task::Move;
 use task::Task;
+use task_file::Command;
 
 // Things of a kind, counted: "1 step", "2 steps".
 #[derive(Clone, Copy)]
@@ -131,7 +133,10 @@ pub impl<'a> fmt::Display for TaskInWords<'a> as TaskDisplay {
         let moves = Count(task.moves() as usize, "move");
         let start = List::fluents(plain(task.start()));
         let goal = List::fluents(task.goal());
-        write!(f, "task: {stations}, {fluents}, {moves}\n  start: {start}\n  goal: {goal}\n")?;
+        write!(
+            f,
+            "task: {stations}, {fluents}, {moves}\n  start: {start}\n  goal: {goal}\n"
+        )?;
         for a in 0..task.moves() {
             if let Some(one) = task.get(a) {
                 let station = one.station;
@@ -161,5 +166,44 @@ pub impl fmt::Display for StepInWords as StepDisplay {
             f.write_str("no station makes a move")?;
         }
         Ok(())
+    }
+}
+
+// A literal of a command: "2" or "not 2".
+#[derive(Clone, Copy)]
+struct LiteralInWords(Literal);
+
+pub impl fmt::Display for LiteralInWords as LiteralDisplay {
+    fn fmt<W: fmt::Write>(&self, f: &mut fmt::Formatter<W>) -> fmt::Result {
+        let number = self.0.number;
+        if self.0.plain {
+            write!(f, "{number}")
+        } else {
+            write!(f, "not {number}")
+        }
+    }
+}
+
+// A command of a task file, by its name: "NEED not 2".
+#[derive(Clone, Copy)]
+pub struct CommandInWords(pub Command);
+
+pub impl fmt::Display for CommandInWords as CommandDisplay {
+    fn fmt<W: fmt::Write>(&self, f: &mut fmt::Formatter<W>) -> fmt::Result {
+        match self.0 {
+            Command::Sizes(stations, fluents, moves) => {
+                write!(f, "SIZES {stations}, {fluents}, {moves}")
+            }
+            Command::Start(k) => write!(f, "START {k}"),
+            Command::Goal(l) => write!(f, "GOAL {}", LiteralInWords(l)),
+            Command::Move(station) => write!(f, "MOVE {station}"),
+            Command::Need(l) => write!(f, "NEED {}", LiteralInWords(l)),
+            Command::With(l) => write!(f, "WITH {}", LiteralInWords(l)),
+            Command::Effect => f.write_str("EFFECT"),
+            Command::If(l) => write!(f, "IF {}", LiteralInWords(l)),
+            Command::IfMove(l) => write!(f, "IFMOVE {}", LiteralInWords(l)),
+            Command::Then(l) => write!(f, "THEN {}", LiteralInWords(l)),
+            Command::End => f.write_str("END"),
+        }
     }
 }
