@@ -8,9 +8,9 @@ ghost use Rattle.model.specs.Task.{written};
 ghost use Rattle.moves.specs.Lists.{literals-of};
 ghost use Rattle.task.specs.Views.{task-of};
 ghost use Rattle.coupling.specs.Rows.{row};
+use moves::Literals;
 use std::alloc::AllocError;
 use std::alloc::Global;
-use moves::Literals;
 use task::Task;
 
 // Two relations between move numbers. A question changes nothing.

@@ -1,5 +1,9 @@
 // What a refusal is about: the bytes of a file, or a move and what it lacks on the line.
+ghost use mathlib.Core.Path.{_≡_};
+ghost use Rattle.model.specs.Sets.{meet, minus};
+ghost use Rattle.sets.specs.Members.{members};
 use crate::refused::Found;
+use crate::words::plain;
 use coupling::Coupling;
 use moves::Literals;
 use refusals::Question;
@@ -24,7 +28,10 @@ pub struct Stop {
 }
 
 // The literals that do not hold in a set.
-fn unmet(literals: Literals, set: IndexSet) -> Literals {
+fn unmet(literals: Literals, set: IndexSet) -> Literals
+    ensures plain { λ r. ⌜ members (r .plain) ≡ minus (members (literals .plain)) (members set) ⌝ }
+    ensures negated { λ r. ⌜ members (r .negated) ≡ meet (members (literals .negated)) (members set) ⌝ }
+{
     Literals {
         plain: literals.plain.difference(set),
         negated: literals.negated.intersection(set),
@@ -68,7 +75,7 @@ fn barred_by<C: Coupling>(task: &Task, coupling: &C, a: u8) -> IndexSet {
 fn missing<C: Coupling>(task: &Task, coupling: &C, moves: IndexSet) -> Option<Found> {
     for a in 0..task.moves() {
         if moves.contains(a) && lacks(task, coupling, moves, a) {
-            let moves = needed_by(task, coupling, a).difference(moves);
+            let moves = plain(needed_by(task, coupling, a).difference(moves));
             return Some(Found::Missing { a, moves });
         }
     }
@@ -79,7 +86,7 @@ fn missing<C: Coupling>(task: &Task, coupling: &C, moves: IndexSet) -> Option<Fo
 fn barred<C: Coupling>(task: &Task, coupling: &C, moves: IndexSet) -> Option<Found> {
     for a in 0..task.moves() {
         if moves.contains(a) && clashes(task, coupling, moves, a) {
-            let moves = barred_by(task, coupling, a).intersection(moves);
+            let moves = plain(barred_by(task, coupling, a).intersection(moves));
             return Some(Found::Barred { a, moves });
         }
     }

@@ -1,7 +1,8 @@
 // Bytes of files in lower-case hexadecimal.
 ghost use mathlib.Core.Path.{_≡_};
-ghost use Prim.Native.Nat.{ℕ, _<_};
+ghost use Prim.Native.Nat.{ℕ, _/_, _%_, _<_};
 ghost use Rattle.std.specs.Options.{Cases as BySome};
+ghost use Rattle.std.specs.Vec.{made};
 ghost use Rattle.gunxebi.specs.Hex.{hex-digit};
 use crate::flaw::Flaw;
 use crate::flaw::FlawFromAlloc;
@@ -20,7 +21,9 @@ fn value(digit: u8) -> Option<u8>
 }
 
 // The byte that two digits stand for.
-fn byte(high: u8, low: u8) -> Result<u8, Flaw> {
+fn byte(high: u8, low: u8) -> Result<u8, Flaw>
+    ensures { λ r. ⌜ made r (λ b. (hex-digit (b / 16) ≡ high) × (hex-digit (b % 16) ≡ low)) ⌝ }
+{
     match (value(high), value(low)) {
         (Some(h), Some(l)) => Ok(h * 16 + l),
         _ => Err(Flaw::NotHex),

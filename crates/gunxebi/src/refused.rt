@@ -5,12 +5,10 @@ use crate::words::Count;
 use crate::words::CountDisplay;
 use crate::words::List;
 use crate::words::ListDisplay;
-use crate::words::plain;
 use moves::Literals;
 use refusals::Layer;
 use refusals::Question;
 use refusals::Refusal;
-use sets::IndexSet;
 use std::fmt;
 use task_file::Command;
 
@@ -106,9 +104,9 @@ pub enum Found {
     // Needs of a move do not hold.
     Unmet { a: u8, needs: Literals },
     // A move needs moves that are not in the step.
-    Missing { a: u8, moves: IndexSet },
+    Missing { a: u8, moves: Literals },
     // A move bars moves that are in the step.
-    Barred { a: u8, moves: IndexSet },
+    Barred { a: u8, moves: Literals },
     // One move makes a fluent true that another makes false.
     Torn { fluent: u8, by: u8, but: u8 },
     // Goal literals do not hold.
@@ -128,16 +126,12 @@ pub impl fmt::Display for Found as FoundDisplay {
                 write!(f, "station {station} has move {a}, a move of station {own}")
             }
             Found::Unmet { a, needs } => write!(f, "move {a} needs {}", List::fluents(needs)),
-            Found::Missing { a, moves } => write!(
-                f,
-                "move {a} needs {}",
-                List::moves(plain(moves))
-            ),
-            Found::Barred { a, moves } => write!(f, "move {a} bars {}", List::moves(plain(moves))),
+            Found::Missing { a, moves } => write!(f, "move {a} needs {}", List::moves(moves)),
+            Found::Barred { a, moves } => write!(f, "move {a} bars {}", List::moves(moves)),
             Found::Torn { fluent, by, but } => {
                 write!(
                     f,
-                    "fluent {fluent} is made true by move {by}, false by move {but}"
+                    "move {by} makes fluent {fluent} true, move {but} makes it false"
                 )
             }
             Found::Short(goal) => write!(f, "not met: {}", List::fluents(goal)),

@@ -1,4 +1,7 @@
 // Judging a plan for a task, shown step by step. The sequencer gives the verdict; the steps are shown beside it.
+ghost use mathlib.Core.Path.{_≡_};
+ghost use Rattle.model.specs.Sets.{minus};
+ghost use Rattle.sets.specs.Members.{members};
 use crate::causes::Stop;
 use crate::causes::in_plan;
 use crate::causes::in_task;
@@ -39,7 +42,10 @@ use step::step_from;
 use task::Task;
 
 // What a step changes: the fluents that become true, and those that become false.
-fn changes(before: IndexSet, after: IndexSet) -> Literals {
+fn changes(before: IndexSet, after: IndexSet) -> Literals
+    ensures plain { λ r. ⌜ members (r .plain) ≡ minus (members after) (members before) ⌝ }
+    ensures negated { λ r. ⌜ members (r .negated) ≡ minus (members before) (members after) ⌝ }
+{
     Literals {
         plain: after.difference(before),
         negated: before.difference(after),

@@ -1,4 +1,7 @@
 // Tasks and steps in words. Stations, fluents and moves go by their numbers.
+ghost use mathlib.Core.Path.{_≡_};
+ghost use Rattle.model.specs.Sets.{none};
+ghost use Rattle.sets.specs.Members.{members};
 use moves::Effect;
 use moves::Literal;
 use moves::Literals;
@@ -22,7 +25,10 @@ pub impl fmt::Display for Count as CountDisplay {
 }
 
 // The numbers of a set, each as a plain literal.
-pub fn plain(set: IndexSet) -> Literals {
+pub fn plain(set: IndexSet) -> Literals
+    ensures plain { λ r. ⌜ members (r .plain) ≡ members set ⌝ }
+    ensures negated { λ r. ⌜ members (r .negated) ≡ none ⌝ }
+{
     Literals {
         plain: set,
         negated: IndexSet::empty(),

@@ -57,12 +57,7 @@ impl Sizes {
 }
 
 // The effect after one of its own commands: a condition, a move condition or a result.
-fn extended(
-    effect: Effect,
-    sizes: Sizes,
-    command: Command,
-    place: usize,
-) -> Result<Effect, Refusal>
+fn extended(effect: Effect, sizes: Sizes, command: Command, place: usize) -> Result<Effect, Refusal>
     requires { ⌜ effect-fits (sizes .fluents) (sizes .moves) (effect-of effect) ≡ true ⌝ }
     ensures fits { λ r. ⌜ made r (λ e. effect-fits (sizes .fluents) (sizes .moves) (effect-of e) ≡ true) ⌝ }
     ensures asked { λ r. ⌜ Asked place r ⌝ }
