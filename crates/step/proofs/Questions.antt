@@ -19,13 +19,14 @@ module _ (L : Line) (K : Coupling) (s S : Set) (ready : false ≡ unready L s S)
       pub step-allowed : false ≡ any n both → refused L K s S ≡ none
       step-allowed e = let t = disagree false n both e fluents meets in rw (← ready, ← present, ← absent, ← t) refl
 
-    pub step-after : (d t : Set) → d ≡ minus s u → t ≡ either d m → t ≡ after L s S
-    step-after d t less more = more ∙ ap₂ either (less ∙ ap (minus s) unmade-is) made-is ∙ fun-ext (λ k. at (made L s S k) (unmade L s S k) (s k))
-      where
-        at : (x y z : Bool) → ((not y && z) || x) ≡ cond x true (cond y false z)
-        at true true z = refl
-        at true false true = refl
-        at true false false = refl
-        at false true z = refl
-        at false false true = refl
-        at false false false = refl
+-- the old fluents less those made false, with those made true
+pub step-after : (L : Line) (s S m u d t : Set) → m ≡ made L s S → u ≡ unmade L s S → d ≡ minus s u → t ≡ either d m → t ≡ after L s S
+step-after L s S m u d t made-is unmade-is less more = more ∙ ap₂ either (less ∙ ap (minus s) unmade-is) made-is ∙ fun-ext (λ k. at (made L s S k) (unmade L s S k) (s k))
+  where
+    at : (x y z : Bool) → ((not y && z) || x) ≡ cond x true (cond y false z)
+    at true true z = refl
+    at true false true = refl
+    at true false false = refl
+    at false true z = refl
+    at false false true = refl
+    at false false false = refl

@@ -1,9 +1,9 @@
 -- The bytes are those before the one that was found, that one, and those after it.
 use mathlib.Core.Path.{sym, ap, _∙_}
 use mathlib.Core.List.{_++_, _∷_}
-use Prim.Native.Nat.{_+_, _<_}
-use native.Mathlib.Numerals.{unary-clauses}
-use lib.ListN.{length, take, drop}
+use native.Mathlib.Nat.{sub-zero}
+use Prim.Native.Nat.{_+_}
+use lib.ListN.{take, drop}
 use Rattle.std.proofs.shelf.Lists.{take-append-drop, drop-more, take-rest}
 use Rattle.gunxebi.proofs.text.cut.Needs as need
 
@@ -12,4 +12,5 @@ returns-in-Some c =
     let xs = c .args .bytes .now in
     let i = c .in-Some .i in
     let h = c .in-Some .ensures tt in
-    rw (take-rest xs (i + 1)) (simp unary-clauses (sym (take-append-drop i xs) ∙ ap (λ ys. take i xs ++ ys) (drop-more xs i 0 (h .0) ∙ ap (λ y. y ∷ drop (i + 1) xs) (h .1))))
+    rw (sub-zero i, take-rest xs (i + 1))
+    (sym (take-append-drop i xs) ∙ ap (λ ys. take i xs ++ ys) (drop-more xs i 0 (h .0) ∙ ap (λ y. y ∷ drop (i + 1) xs) (h .1)))

@@ -17,6 +17,6 @@ returns g c =
       step-allowed (line-of (c .args .task .now)) K (members (c .args .line)) (members (c .args .moves)) (c .if-some-unready .ensures tt) (c .if-some-lack .ensures tt) (c .if-some-clash .ensures tt)
           _ _ (c .joint-changes-changes .ensures .made) (c .joint-changes-changes .ensures .unmade) (c .fluents .result) (members (c .intersection .result)) (c .fluents .ensures .value) (c .intersection .ensures)
           (c .if-any-below .ensures tt),
-      step-after (line-of (c .args .task .now)) K (members (c .args .line)) (members (c .args .moves)) (c .if-some-unready .ensures tt) (c .if-some-lack .ensures tt) (c .if-some-clash .ensures tt)
-          _ _ (c .joint-changes-changes .ensures .made) (c .joint-changes-changes .ensures .unmade) _ _ (c .difference .ensures) (c .union .ensures),
+      step-after (line-of (c .args .task .now)) (members (c .args .line)) (members (c .args .moves)) _ _ _ _ (c .joint-changes-changes .ensures .made) (c .joint-changes-changes .ensures .unmade)
+          (c .difference .ensures) (c .union .ensures),
     )

@@ -15,4 +15,4 @@ pub returns-in-Err : need.returns-in-Err
 returns-in-Err g c =
     let w = c .args .self .now in
     let K = coupled-by (g .C·Coupling .needed (w .coupling .now)) (g .C·Coupling .barred (w .coupling .now)) in
-    (leads-off (line-of (w .task .now)) K (members (c .args .state .now)) (members (c .moves .result)) _ (c .moves .ensures) (c .in-Err .question) (c .in-Err .ensures tt), refl)
+    (leads-off (line-of (w .task .now)) K (members (c .args .state .now)) (members (c .moves .result)) _ (c .moves .ensures) (c .in-Err .question) (c .in-Err .ensures tt), refl {a = members (c .args .state .now)})
