@@ -42,14 +42,14 @@ def random_sizes(rng):
     if rng.random() < 0.04:
         return 16, 128, 64
     n = 16 if rng.random() < 0.05 else rng.randint(1, 4)
-    f = 128 if rng.random() < 0.05 else rng.randint(1, 6)
-    m = 64 if rng.random() < 0.03 else rng.randint(1, 6)
+    f = 128 if rng.random() < 0.05 else rng.choice((1, 2, 3, 4, 4, 5, 5, 6, 6))
+    m = 64 if rng.random() < 0.03 else rng.choice((1, 2, 3, 4, 4, 5, 5, 6, 6))
     return n, f, m
 
 
-def some_literals(rng, command, numbers, most):
-    """Up to so many commands, of different numbers."""
-    chosen = rng.sample(numbers, min(rng.randint(0, most), len(numbers)))
+def some_literals(rng, command, numbers, count):
+    """So many commands, of different numbers, as far as there are so many."""
+    chosen = rng.sample(numbers, min(count, len(numbers)))
     return [bytes([command, x | rng.choice((0x00, 0x80))]) for x in chosen]
 
 
@@ -68,21 +68,20 @@ def random_task(rng):
     moves = list(range(m))
     stations = list(range(n)) if rng.random() < 0.7 else [0, n - 1]
     most = rng.choice((1, 1, 2, 3))  # how full the lists are
+    few = lambda: rng.randint(0, most) if rng.random() < 0.6 else 0
     starts = [bytes([START, x]) for x in fluents if rng.random() < 0.5]
     commands = [bytes([SIZES, n, f, m])] + mixed(rng, starts)
     for _ in moves:
         commands.append(bytes([MOVE, rng.choice(stations)]))
-        needs = some_literals(rng, NEED, fluents, rng.randint(0, most))
-        companions = some_literals(rng, WITH, moves, rng.randint(0, most))
+        needs = some_literals(rng, NEED, fluents, few())
+        companions = some_literals(rng, WITH, moves, few())
         commands += mixed(rng, needs, companions)
-        for _ in range(8 if rng.random() < 0.03 else rng.randint(0, 3)):
+        for _ in range(8 if rng.random() < 0.03 else rng.choice((0, 1, 1, 2, 2, 3))):
             commands.append(bytes([EFFECT]))
-            commands += mixed(
-                rng,
-                some_literals(rng, IF, fluents, rng.randint(0, most)),
-                some_literals(rng, IFMOVE, moves, rng.randint(0, most)),
-                some_literals(rng, THEN, fluents, most),
-            )
+            conditions = some_literals(rng, IF, fluents, few())
+            move_conditions = some_literals(rng, IFMOVE, moves, few())
+            results = some_literals(rng, THEN, fluents, rng.randint(0, most + 1))
+            commands += mixed(rng, conditions, move_conditions, results)
     return commands + [bytes([END])]
 
 
@@ -118,14 +117,14 @@ def random_moves(rng, task):
     return set(moves.values())
 
 
-def allowed_moves(rng, task, state):
-    """Moves that are allowed here; if possible, moves that change something."""
+def allowed_moves(rng, task, states):
+    """Moves that are allowed in the last of the states; if possible, they lead to a new one."""
     found = set()
-    for _ in range(12):
+    for _ in range(20):
         moves = random_moves(rng, task)
-        if reference.refusal_of(task, state, moves) is None:
+        if reference.refusal_of(task, states[-1], moves) is None:
             found = moves
-            if reference.after(task, state, moves) != state:
+            if reference.after(task, states[-1], moves) not in states:
                 break
     return found
 
@@ -145,32 +144,30 @@ def refused_moves(rng, task, state):
 
 
 def random_goal(rng, task, state):
-    """Literals that hold in the state."""
-    fluents = set(range(min(task.f, 8))) | set(range(task.f - min(task.f, 2), task.f))
-    fluents |= {number_of(x) for move in task.moves for e in move.effects for x in e.results}
-    kept = rng.choice((0.2, 0.5, 1.0))
-    return [x if x in state else x | 0x80 for x in sorted(fluents) if rng.random() < kept]
+    """Literals that hold in the state, of all fluents or of some."""
+    fluents = range(task.f)
+    if rng.random() < 0.6:
+        fluents = rng.sample(fluents, rng.randint(0, task.f))
+    return [x if x in state else x | 0x80 for x in fluents]
 
 
 def task_and_plan(rng):
     """A well-formed task and plan: about half of them solve, most others fail late."""
     commands = random_task(rng)
     task = reference.read_task(b"".join(commands))
-    state = set(task.start)
     plan = []
-    states = [state]
-    for _ in range(rng.choice((0, 1, 2, 3, 4, 5, 6, 8, 12))):
-        moves = allowed_moves(rng, task, state)
-        state = reference.after(task, state, moves)
-        states.append(state)
+    states = [set(task.start)]
+    for _ in range(rng.choice((0, 1, 2, 3, 3, 4, 4, 5, 6, 8, 12))):
+        moves = allowed_moves(rng, task, states)
+        states.append(reference.after(task, states[-1], moves))
         plan.append(step_of(task, moves))
     # The goal is met at the end, or somewhere on the way, or one literal is missed.
     ending = rng.choices(("end", "way", "miss"), (7, 1, 2))[0]
-    goal = random_goal(rng, task, rng.choice(states) if ending == "way" else state)
+    goal = random_goal(rng, task, rng.choice(states) if ending == "way" else states[-1])
     if ending == "miss" and goal:
         goal[rng.randrange(len(goal))] ^= 0x80
     if rng.random() < 0.5:
-        moves = refused_moves(rng, task, state)
+        moves = refused_moves(rng, task, states[-1])
         if moves is not None:
             plan.append(step_of(task, moves))
             while rng.random() < 0.3:
@@ -221,10 +218,10 @@ def edge_operand(rng, command, sizes):
         which = rng.randrange(3)
         most = (16, 128, 64)[which]
         changed = bytearray(command)
-        changed[1 + which] = rng.choice((0, 1, most, most + 1, 0x80, 0xFF))
+        changed[1 + which] = rng.choice((0, 0, 1, most, most + 1, most + 1, 0x80, 0xFF))
         return bytes(changed)
     bound = {MOVE: n, WITH: m, IFMOVE: m}.get(command[0], f)
-    edge = rng.choice((bound - 1, bound, 0, 0x7F))
+    edge = rng.choice((bound - 1, bound, bound, 0, 0x7F))
     return bytes([command[0], (edge | rng.choice((0x00, 0x80))) & 0xFF])
 
 
@@ -235,8 +232,8 @@ def changed_commands(rng, commands):
     changed = list(commands)
     at = rng.randrange(len(changed))
     kind = rng.choice((
-        "swap", "delete", "duplicate", "insert", "after END", "effects", "repeat", "repeat", "edge",
-        "edge", "sizes", "more moves", "fewer moves", "truncate",
+        "swap", "delete", "duplicate", "insert", "after END", "effects", "effects", "repeat", "repeat",
+        "repeat", "edge", "edge", "edge", "sizes", "sizes", "more moves", "fewer moves", "truncate",
     ))
     if kind == "swap":
         other = rng.choice((rng.randrange(len(changed)), max(at - 1, 0)))
@@ -451,10 +448,10 @@ def other_line(rng):
 
 def random_request(rng):
     makers = {
-        well_formed: 40,
+        well_formed: 44,
         changed_task: 26,
-        changed_task_bytes: 8,
-        changed_plan: 8,
+        changed_task_bytes: 6,
+        changed_plan: 6,
         wrong_operands: 11,
         short_files: 5,
         task_at_limit: 1.5,

@@ -1,5 +1,5 @@
 // Why a request has no verdict.
-use std::alloc::AllocError;
+use std::alloc::Refused;
 use std::fmt;
 
 #[derive(Clone, Copy)]
@@ -16,8 +16,9 @@ pub enum Flaw {
     Memory,
 }
 
-pub impl From<AllocError> for Flaw as FlawFromAlloc {
-    fn from(_e: AllocError) -> Flaw {
+// Where a `?` stands after a push that found no memory.
+pub impl<T: Drop> From<Refused<T>> for Flaw as FlawFromUnplaced {
+    fn from(_e: Refused<T>) -> Flaw {
         Flaw::Memory
     }
 }

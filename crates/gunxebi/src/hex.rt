@@ -5,8 +5,7 @@ ghost use Rattle.std.specs.Options.{Cases as BySome};
 ghost use Rattle.std.specs.Vec.{made};
 ghost use Rattle.gunxebi.specs.Hex.{hex-digit};
 use crate::flaw::Flaw;
-use crate::flaw::FlawFromAlloc;
-use std::alloc::AllocError;
+use crate::flaw::FlawFromUnplaced;
 use std::alloc::Global;
 
 // The number that a digit stands for.
@@ -48,9 +47,7 @@ pub fn bytes(heap: Global, digits: &[u8]) -> Result<Vec<u8>, Flaw> {
         _ => {}
     }
     for two in digits.chunks(2) {
-        if file.push(pair(two)?).is_err() {
-            return Err(Flaw::Memory);
-        }
+        file.push(pair(two)?)?;
     }
     Ok(file)
 }

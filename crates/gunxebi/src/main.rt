@@ -34,6 +34,7 @@ It ends with status 0, or with 1 where a plan is refused or something is wrong.
 docs/FORMATS.md describes files and requests, docs/REFUSALS.md what a refusal means.
 ";
 
+// The example that is played where there is no argument.
 const TASK: &str = "examples/tray-lift/tray-lift.task";
 
 const PLAN: &str = "examples/tray-lift/both.plan";

@@ -145,9 +145,9 @@ pub fn judge(rt: &LibcRuntime, task_path: &str, plan_path: &str) -> Result<Ended
             print!(rt, "{words}")?;
             show_plan(rt, &task, &plan_file, verdict)
         }
-        (Err(_), Err(Fault::Refused(refusal))) => {
+        (Err(Fault::Refused(_)), Err(Fault::Refused(refusal))) => {
             refuse(rt, refusal, Source::Task, in_task(&task_file, refusal))
         }
-        (Err(_), _) => Err(Trouble::Memory),
+        _ => Err(Trouble::Memory),
     }
 }

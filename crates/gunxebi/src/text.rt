@@ -19,7 +19,8 @@ pub fn find(bytes: &[u8], b: u8) -> Option<usize>
 
 // What stands before the first byte that is `b`, and what stands after it, if there is one.
 pub fn cut(bytes: &[u8], b: u8) -> (&[u8], Option<&[u8]>)
-    ensures { λ r. ⌜ BySome (r .1) (now (r .0) ≡ now (bytes .entry)) (λ rest. now (bytes .entry) ≡ now (r .0) ++ b ∷ now rest) ⌝ }
+    ensures first { λ r. ⌜ ((k : ℕ) → k < length (now (r .0)) → getD (now (r .0)) k 0 ≡ b → ⊥) ⌝ }
+    ensures parts { λ r. ⌜ BySome (r .1) (now (r .0) ≡ now (bytes .entry)) (λ rest. now (bytes .entry) ≡ now (r .0) ++ b ∷ now rest) ⌝ }
 {
     match find(bytes, b) {
         Some(i) => (&bytes[0..i], Some(&bytes[i + 1..])),
