@@ -1,5 +1,5 @@
 -- The rows of the written coupling. Assumes nothing.
-use mathlib.Core.List.{List, map}
+use mathlib.Core.List.{map}
 use Prim.Native.Nat.{ℕ}
 use lib.ListN.{getD}
 use Rattle.std.specs.Of.Vec.{vec-items}

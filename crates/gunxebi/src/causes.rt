@@ -3,6 +3,7 @@ ghost use mathlib.Core.Path.{_≡_};
 ghost use Rattle.model.specs.Sets.{meet, minus};
 ghost use Rattle.sets.specs.Members.{members};
 use crate::refused::Found;
+use crate::words::List;
 use crate::words::plain;
 use coupling::Coupling;
 use moves::Literals;
@@ -42,8 +43,9 @@ fn unmet(literals: Literals, set: IndexSet) -> Literals
 fn unready(task: &Task, stop: Stop) -> Option<Found> {
     for a in 0..task.moves() {
         if stop.moves.contains(a) && !task.ready(a, stop.line) {
-            let needs = unmet(task.get(a)?.needs, stop.line);
-            return Some(Found::Unmet { a, needs });
+            let what = List::fluents(unmet(task.get(a)?.needs, stop.line));
+            let verb = "needs";
+            return Some(Found::Move { a, verb, what });
         }
     }
     None
@@ -75,8 +77,9 @@ fn barred_by<C: Coupling>(task: &Task, coupling: &C, a: u8) -> IndexSet {
 fn missing<C: Coupling>(task: &Task, coupling: &C, moves: IndexSet) -> Option<Found> {
     for a in 0..task.moves() {
         if moves.contains(a) && lacks(task, coupling, moves, a) {
-            let moves = plain(needed_by(task, coupling, a).difference(moves));
-            return Some(Found::Missing { a, moves });
+            let what = List::moves(plain(needed_by(task, coupling, a).difference(moves)));
+            let verb = "needs";
+            return Some(Found::Move { a, verb, what });
         }
     }
     None
@@ -86,8 +89,9 @@ fn missing<C: Coupling>(task: &Task, coupling: &C, moves: IndexSet) -> Option<Fo
 fn barred<C: Coupling>(task: &Task, coupling: &C, moves: IndexSet) -> Option<Found> {
     for a in 0..task.moves() {
         if moves.contains(a) && clashes(task, coupling, moves, a) {
-            let moves = plain(barred_by(task, coupling, a).intersection(moves));
-            return Some(Found::Barred { a, moves });
+            let what = List::moves(plain(barred_by(task, coupling, a).intersection(moves)));
+            let verb = "bars";
+            return Some(Found::Move { a, verb, what });
         }
     }
     None
@@ -134,7 +138,7 @@ pub fn on_line<C: Coupling>(
         Question::Present => missing(task, coupling, stop.moves),
         Question::Absent => barred(task, coupling, stop.moves),
         Question::Agree => torn(task, stop),
-        Question::Goal => Some(Found::Short(unmet(task.goal(), stop.line))),
+        Question::Goal => Some(Found::Goal(List::fluents(unmet(task.goal(), stop.line)))),
         _ => None,
     }
 }

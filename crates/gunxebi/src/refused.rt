@@ -5,7 +5,6 @@ use crate::words::Count;
 use crate::words::CountDisplay;
 use crate::words::List;
 use crate::words::ListDisplay;
-use moves::Literals;
 use refusals::Layer;
 use refusals::Question;
 use refusals::Refusal;
@@ -43,21 +42,6 @@ pub impl fmt::Display for Source as SourceDisplay {
     }
 }
 
-// A place in a file.
-#[derive(Clone, Copy)]
-struct Offset {
-    place: usize,
-    source: Source,
-}
-
-pub impl fmt::Display for Offset as OffsetDisplay {
-    fn fmt<W: fmt::Write>(&self, f: &mut fmt::Formatter<W>) -> fmt::Result {
-        let place = self.place;
-        let source = self.source;
-        write!(f, "at offset {place} of the {source}")
-    }
-}
-
 // What was asked and answered no, of a file or of the line.
 #[derive(Clone, Copy)]
 pub struct Asked {
@@ -65,26 +49,37 @@ pub struct Asked {
     pub source: Source,
 }
 
+// The words before and after the place of a refusal.
+fn around(question: Question) -> (&'static str, &'static str) {
+    match question {
+        Question::Limit => ("the ", " has more bytes than its limit"),
+        Question::Command => ("no command with all its operands stands ", ""),
+        Question::Order => ("the command ", " is out of order"),
+        Question::Range => ("an operand of the command ", " is out of range"),
+        Question::New => ("the fluent or move ", " is in its list already"),
+        Question::Effects => ("the EFFECT ", " is the ninth of its move"),
+        Question::Station => ("the STEP ", " has a move of another station"),
+        Question::Needs => ("the needs of a move of ", " do not hold"),
+        Question::Present => ("a move of ", " needs one that is not in it"),
+        Question::Absent => ("a move of ", " bars one that is in it"),
+        Question::Agree => ("the results of ", " do not agree"),
+        Question::Goal => ("the goal is not met after ", ""),
+    }
+}
+
 pub impl fmt::Display for Asked as AskedDisplay {
     fn fmt<W: fmt::Write>(&self, f: &mut fmt::Formatter<W>) -> fmt::Result {
-        let place = self.refusal.place;
+        let Refusal { question, place } = self.refusal;
         let source = self.source;
-        let at = Offset { place, source };
-        let steps = Count(place, "step");
-        match self.refusal.question {
-            Question::Limit => write!(f, "the {source} has more bytes than its limit"),
-            Question::Command => write!(f, "no command with all its operands stands {at}"),
-            Question::Order => write!(f, "the command {at} is out of order"),
-            Question::Range => write!(f, "an operand of the command {at} is out of range"),
-            Question::New => write!(f, "the fluent or move {at} is in its list already"),
-            Question::Effects => write!(f, "the EFFECT {at} is the ninth of its move"),
-            Question::Station => write!(f, "the STEP {at} has a move of another station"),
-            Question::Needs => write!(f, "the needs of a move of step {place} do not hold"),
-            Question::Present => write!(f, "a move of step {place} needs one that is not in it"),
-            Question::Absent => write!(f, "a move of step {place} bars one that is in it"),
-            Question::Agree => write!(f, "the results of step {place} do not agree"),
-            Question::Goal => write!(f, "the goal is not met after {steps}"),
+        let (before, after) = around(question);
+        f.write_str(before)?;
+        match (question, question.layer()) {
+            (Question::Limit, _) => write!(f, "{source}")?,
+            (Question::Goal, _) => write!(f, "{}", Count(place, "step"))?,
+            (_, Layer::Form) => write!(f, "at offset {place} of the {source}")?,
+            (_, Layer::Run) => write!(f, "step {place}")?,
         }
+        f.write_str(after)
     }
 }
 
@@ -98,19 +93,30 @@ pub enum Found {
     // The command of a task file at the place of the refusal.
     Command(Command),
     // The operand of a station is no move.
-    NoMove { station: usize, operand: u8 },
+    NoMove {
+        station: usize,
+        operand: u8,
+    },
     // The operand of a station is a move of another one.
-    Foreign { station: usize, a: u8, own: u8 },
-    // Needs of a move do not hold.
-    Unmet { a: u8, needs: Literals },
-    // A move needs moves that are not in the step.
-    Missing { a: u8, moves: Literals },
-    // A move bars moves that are in the step.
-    Barred { a: u8, moves: Literals },
+    Foreign {
+        station: usize,
+        a: u8,
+        own: u8,
+    },
+    // A move needs what does not hold, or needs or bars other moves than the step's.
+    Move {
+        a: u8,
+        verb: &'static str,
+        what: List,
+    },
     // One move makes a fluent true that another makes false.
-    Torn { fluent: u8, by: u8, but: u8 },
+    Torn {
+        fluent: u8,
+        by: u8,
+        but: u8,
+    },
     // Goal literals do not hold.
-    Short(Literals),
+    Goal(List),
 }
 
 pub impl fmt::Display for Found as FoundDisplay {
@@ -125,16 +131,14 @@ pub impl fmt::Display for Found as FoundDisplay {
             Found::Foreign { station, a, own } => {
                 write!(f, "station {station} has move {a}, a move of station {own}")
             }
-            Found::Unmet { a, needs } => write!(f, "move {a} needs {}", List::fluents(needs)),
-            Found::Missing { a, moves } => write!(f, "move {a} needs {}", List::moves(moves)),
-            Found::Barred { a, moves } => write!(f, "move {a} bars {}", List::moves(moves)),
+            Found::Move { a, verb, what } => write!(f, "move {a} {verb} {what}"),
             Found::Torn { fluent, by, but } => {
                 write!(
                     f,
                     "move {by} makes fluent {fluent} true, move {but} makes it false"
                 )
             }
-            Found::Short(goal) => write!(f, "not met: {}", List::fluents(goal)),
+            Found::Goal(unmet) => write!(f, "not met: {unmet}"),
         }
     }
 }

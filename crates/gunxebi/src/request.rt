@@ -9,18 +9,38 @@ pub struct Request<'a> {
     pub plan: &'a [u8],
 }
 
+// Requests that are known by name, and not answered yet.
+const LATER: [&[u8]; 8] = [
+    b"judge-compiled",
+    b"compile",
+    b"encode",
+    b"read-back",
+    b"alike",
+    b"run",
+    b"guided",
+    b"lockout",
+];
+
+// Why a name is not that of a request that is answered.
+fn unanswered(name: &[u8]) -> Flaw {
+    for later in &LATER {
+        if name == *later {
+            return Flaw::NotYet;
+        }
+    }
+    Flaw::UnknownRequest
+}
+
 // The request of a line.
 pub fn read<'a>(line: &'a [u8]) -> Result<Request<'a>, Flaw> {
     if line.is_empty() {
         return Err(Flaw::EmptyLine);
     }
     let (name, fields) = cut(line, b' ');
-    match name {
-        b"judge-joint" => judge_joint(fields),
-        b"judge-compiled" | b"compile" | b"encode" | b"read-back" | b"alike" => Err(Flaw::NotYet),
-        b"run" | b"guided" | b"lockout" => Err(Flaw::NotYet),
-        _ => Err(Flaw::UnknownRequest),
+    if name != b"judge-joint" {
+        return Err(unanswered(name));
     }
+    judge_joint(fields)
 }
 
 fn judge_joint<'a>(fields: Option<&'a [u8]>) -> Result<Request<'a>, Flaw> {
@@ -36,9 +56,12 @@ fn judge_joint<'a>(fields: Option<&'a [u8]>) -> Result<Request<'a>, Flaw> {
 
 // Is the coupling the written one? Others are 'footprint', and both with pairs of a lockout after a '+'.
 fn ask_coupling(coupling: &[u8]) -> Result<(), Flaw> {
-    match cut(coupling, b'+') {
-        (b"written", None) => Ok(()),
-        (b"written" | b"footprint", _) => Err(Flaw::NotYet),
-        _ => Err(Flaw::UnknownCoupling),
+    let (base, pairs) = cut(coupling, b'+');
+    if base == b"written" && pairs.is_none() {
+        Ok(())
+    } else if base == b"written" || base == b"footprint" {
+        Err(Flaw::NotYet)
+    } else {
+        Err(Flaw::UnknownCoupling)
     }
 }

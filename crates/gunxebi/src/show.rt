@@ -133,21 +133,32 @@ fn show_plan(
     }
 }
 
+// Shows the verdict where there is no task to show.
+fn show_unread(
+    rt: &LibcRuntime,
+    file: &[u8],
+    verdict: Result<(), Fault>,
+) -> Result<Ended, Trouble> {
+    match verdict {
+        Err(Fault::Refused(refusal)) => {
+            refuse(rt, refusal, Source::Task, in_task(file, refusal))
+        }
+        _ => Err(Trouble::Memory),
+    }
+}
+
 // Judges the plan in one file for the task in another, and shows both.
 pub fn judge(rt: &LibcRuntime, task_path: &str, plan_path: &str) -> Result<Ended, Trouble> {
     let heap = rt.alloc();
     let task_file = read_file(rt, task_path)?;
     let plan_file = read_file(rt, plan_path)?;
     let verdict = judge_written(heap, &task_file, &plan_file);
-    match (Task::read(heap, &task_file), verdict) {
-        (Ok(task), verdict) => {
+    match Task::read(heap, &task_file) {
+        Ok(task) => {
             let words = TaskInWords(&task);
             print!(rt, "{words}")?;
             show_plan(rt, &task, &plan_file, verdict)
         }
-        (Err(Fault::Refused(_)), Err(Fault::Refused(refusal))) => {
-            refuse(rt, refusal, Source::Task, in_task(&task_file, refusal))
-        }
-        _ => Err(Trouble::Memory),
+        Err(_) => show_unread(rt, &task_file, verdict),
     }
 }

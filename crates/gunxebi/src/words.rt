@@ -190,26 +190,42 @@ pub impl fmt::Display for LiteralInWords as LiteralDisplay {
     }
 }
 
-// A command of a task file, by its name: "NEED not 2".
+// The name of a command of a task file.
+fn name(command: Command) -> &'static str {
+    match command {
+        Command::Sizes(_, _, _) => "SIZES",
+        Command::Start(_) => "START",
+        Command::Goal(_) => "GOAL",
+        Command::Move(_) => "MOVE",
+        Command::Need(_) => "NEED",
+        Command::With(_) => "WITH",
+        Command::Effect => "EFFECT",
+        Command::If(_) => "IF",
+        Command::IfMove(_) => "IFMOVE",
+        Command::Then(_) => "THEN",
+        Command::End => "END",
+    }
+}
+
+// A command of a task file with its operands: "NEED not 2".
 #[derive(Clone, Copy)]
 pub struct CommandInWords(pub Command);
 
 pub impl fmt::Display for CommandInWords as CommandDisplay {
     fn fmt<W: fmt::Write>(&self, f: &mut fmt::Formatter<W>) -> fmt::Result {
+        f.write_str(name(self.0))?;
         match self.0 {
             Command::Sizes(stations, fluents, moves) => {
-                write!(f, "SIZES {stations}, {fluents}, {moves}")
+                write!(f, " {stations}, {fluents}, {moves}")
             }
-            Command::Start(k) => write!(f, "START {k}"),
-            Command::Goal(l) => write!(f, "GOAL {}", LiteralInWords(l)),
-            Command::Move(station) => write!(f, "MOVE {station}"),
-            Command::Need(l) => write!(f, "NEED {}", LiteralInWords(l)),
-            Command::With(l) => write!(f, "WITH {}", LiteralInWords(l)),
-            Command::Effect => f.write_str("EFFECT"),
-            Command::If(l) => write!(f, "IF {}", LiteralInWords(l)),
-            Command::IfMove(l) => write!(f, "IFMOVE {}", LiteralInWords(l)),
-            Command::Then(l) => write!(f, "THEN {}", LiteralInWords(l)),
-            Command::End => f.write_str("END"),
+            Command::Start(k) | Command::Move(k) => write!(f, " {k}"),
+            Command::Goal(l)
+            | Command::Need(l)
+            | Command::With(l)
+            | Command::If(l)
+            | Command::IfMove(l)
+            | Command::Then(l) => write!(f, " {}", LiteralInWords(l)),
+            Command::Effect | Command::End => Ok(()),
         }
     }
 }

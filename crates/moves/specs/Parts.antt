@@ -1,6 +1,6 @@
 -- What the code's moves and effects stand for. Assumes nothing.
 use mathlib.Core.Path.{_≡_}
-use mathlib.Core.List.{List, [], _∷_, _++_, map}
+use mathlib.Core.List.{[], _∷_, _++_, map}
 use Rattle.std.specs.Of.Vec.{vec-items}
 use Rattle.model.specs.Task as model
 use Rattle.moves.specs.Lists.{literals-of}

@@ -1,6 +1,6 @@
 // Literals, one by one and in lists.
 ghost use mathlib.Core.Path.{_≡_};
-ghost use Prim.Native.Nat.{ℕ, _≤_};
+ghost use Prim.Native.Nat.{_≤_};
 ghost use Rattle.model.specs.Sets.{no-literals, both, holds};
 ghost use Rattle.sets.specs.Members.{members};
 ghost use Rattle.refusals.specs.Answers.{seen};

@@ -1,5 +1,4 @@
 // The joint world, and the judging of joint plans.
-ghost use mathlib.Core.Path.{_≡_};
 ghost use denote.Ref.{now};
 ghost use Rattle.world.specs.Plans.{Judged};
 ghost use Rattle.model.specs.Sets.{Set};

@@ -1,7 +1,7 @@
 // Sets of small numbers: fluents, moves or stations.
 // Knows that a set is kept as the bits of one number, which no other crate sees: contracts speak of members.
 ghost use mathlib.Core.Path.{_≡_};
-ghost use Prim.Native.Nat.{ℕ, _<_, _≤_};
+ghost use Prim.Native.Nat.{_<_, _≤_};
 ghost use Rattle.model.specs.Sets.{none, with, either, meet, minus, below as under, subset, apart, any};
 ghost use Rattle.sets.specs.Members.{members};
 

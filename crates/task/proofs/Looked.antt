@@ -13,7 +13,7 @@ use Rattle.std.specs.declared.option.Option.{Option}
 use Rattle.std.specs.declared.option.Option.the-variants.{Some, None}
 use Rattle.std.proofs.shelf.Lists.{getD-map, getD-past}
 use Rattle.std.proofs.shelf.Tests.{and-from}
-use Rattle.model.specs.Sets.{Set, none, subset, apart, no-literals, holds}
+use Rattle.model.specs.Sets.{Set, none, no-literals, holds}
 use Rattle.model.specs.Task as model
 use Rattle.model.specs.Task.{move-at, no-move}
 use Rattle.sets.proofs.Laws.{decides-subset, decides-apart}

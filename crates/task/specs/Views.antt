@@ -1,5 +1,5 @@
 -- The task that the code's task stands for, and its line. Assumes nothing.
-use mathlib.Core.List.{List, map}
+use mathlib.Core.List.{map}
 use Rattle.std.specs.Of.Vec.{vec-items}
 use Rattle.model.specs.Line.{Line}
 use Rattle.model.specs.Task as model

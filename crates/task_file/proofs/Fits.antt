@@ -2,26 +2,22 @@
 use mathlib.Core.Path.{_≡_, refl, sym, ap, subst, _∙_}
 use mathlib.Core.Bool.{Bool, true, false, cond, _&&_}
 use mathlib.Core.List.{List, [], _∷_, _++_, map}
-use Prim.Native.Nat.{ℕ, zero, suc, _+_, _<_, _≤_}
+use Prim.Native.Nat.{ℕ, suc, _+_, _<_}
 use native.Mathlib.Omega.{arith}
-use lib.Dec.{ltb, leb, eqb}
+use lib.Dec.{ltb, leb}
 use lib.ListN.{length, length-map}
 use Rattle.std.specs.Of.Vec.{vec-items, vec-len}
-use Rattle.std.specs.declared.result.Result.{Result}
-use Rattle.std.specs.declared.result.Result.the-variants.{Ok, Err}
+use Rattle.std.specs.declared.result.Result.the-variants.{Ok}
 use Rattle.std.proofs.shelf.Tests.{and-parts, and-from, ltb-true, lt-ltb, le-leb}
-use Rattle.std.proofs.shelf.Ways.{tells}
-use Rattle.model.specs.Sets.{Set, Literals, none, with, below, subset, no-literals, plus, names, within}
+use Rattle.model.specs.Sets.{Literals, no-literals, within}
 use Rattle.model.specs.Task as model
 use Rattle.model.specs.Task.{no-effect, effects-fit, effect-fits, moves-fit, move-fits}
-use Rattle.sets.proofs.Laws.{decides-subset}
 use Rattle.moves.specs.Lists.{literals-of, added}
 use Rattle.moves.specs.Parts.{effect-of, move-of, Extends}
 use Rattle.moves.proofs.Bounds.{within-none, added-within}
 use Rattle.task_file.specs.Form.{move-stands}
 use Rattle.moves.specs.declared.lists.Literal.{Literal}
 use Rattle.moves.specs.declared.lists.Literals as code
-use Rattle.refusals.specs.declared.Refusal.{Refusal}
 use Rattle.moves.specs.declared.parts.Effect.{Effect}
 use Rattle.moves.specs.declared.parts.Move.{Move}
 
@@ -117,9 +113,6 @@ module _ (n f m : ℕ) (v : Move) (e : Effect) (h : (move-stands n f m (move-of 
 
   pub effect-now-fits : effect-fits f m (effect-of e) ≡ true
   effect-now-fits = now-fits .1
-
-  pub extended-stands : (e′ : Effect) → effect-fits f m (effect-of e′) ≡ true → (move-stands n f m (move-of v) && effect-fits f m (effect-of e′)) ≡ true
-  extended-stands e′ g = and-from _ _ (now-fits .0) g
 
   module _ (w : Move) (g : Extends v e w) where
     longer : (es : List Effect) → length (map effect-of (es ++ (e ∷ []))) ≡ suc (length (map effect-of es))

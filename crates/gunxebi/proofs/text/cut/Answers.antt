@@ -4,7 +4,7 @@ use mathlib.Core.List.{_++_, _∷_}
 use native.Mathlib.Omega.{arith}
 use native.Mathlib.Nat.{sub-zero}
 use Prim.Native.Nat.{_+_, _<_}
-use lib.ListN.{length, take, drop}
+use lib.ListN.{take, drop}
 use Rattle.std.proofs.shelf.Lists.{take-append-drop, drop-more, take-rest, length-take, getD-take}
 use Rattle.gunxebi.proofs.text.cut.Needs as need
 

@@ -1,14 +1,12 @@
-use mathlib.Core.Path.{_≡_, sym, ap, _∙_}
-use mathlib.Core.List.{List, _∷_, [], _++_, map}
+use mathlib.Core.Path.{ap}
+use mathlib.Core.List.{map}
 use native.Mathlib.Omega.{arith}
-use borrow.Author.Tests.{true-eqb, false-eqb, lt-ltb}
+use borrow.Author.Tests.{true-eqb, false-eqb}
 use Rattle.std.specs.Of.Vec.{vec-items}
-use Rattle.std.specs.declared.result.Result.the-variants.{Ok, Err}
 use Rattle.std.proofs.shelf.Results.{err-from-errBy}
 use Rattle.task.specs.Views.{line-of}
 use Rattle.step.specs.Views.{operands-of}
 use Rattle.plan.specs.Commands.{operands}
-use Rattle.plan.specs.Form.{Reads}
 use Rattle.plan.proofs.Walks.{all-left, none-left, stops-first, stops-step, goes-on, form-from, over-limit, mapped-push}
 use Rattle.plan.proofs.form.read_joint.Needs as need
 

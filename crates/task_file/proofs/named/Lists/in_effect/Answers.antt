@@ -1,6 +1,6 @@
 use mathlib.Core.Path.{refl}
 use borrow.Author.Needs.{needs}
-use Rattle.task_file.proofs.Fits.{grown-fits, grown-stands, effect-now-fits, extended-stands}
+use Rattle.task_file.proofs.Fits.{grown-fits, grown-stands, effect-now-fits}
 use Rattle.task_file.proofs.named.Lists.in_effect.Needs as need
 
 pub complete-requires : need.complete-requires

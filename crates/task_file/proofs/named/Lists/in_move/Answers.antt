@@ -1,5 +1,5 @@
 use mathlib.Core.Path.{refl}
-use Rattle.std.proofs.shelf.Tests.{and-from, and-parts}
+use Rattle.std.proofs.shelf.Tests.{and-from}
 use Rattle.task_file.proofs.Fits.{need-stands, companion-stands, no-effect-fits}
 use Rattle.task_file.proofs.named.Lists.in_move.Needs as need
 
