@@ -246,7 +246,7 @@ def changed_commands(rng, commands):
         changed.insert(at, random_command(rng))
     elif kind == "after END":
         whole = random_command(rng)
-        changed.append(rng.choice((whole, whole[:1], rng.randbytes(1), bytes([END]), b"".join(commands))))
+        changed.append(rng.choice((whole, whole[:1], rng.randbytes(1), whole + b"\x00", b"".join(commands))))
     elif kind == "effects":  # up to eight or nine in one move
         places = [i for i, command in enumerate(changed) if command[0] == MOVE]
         if places:
