@@ -1,4 +1,3 @@
-use mathlib.Core.Path.{refl}
 use native.Mathlib.Omega.{arith}
 use borrow.Author.Needs.{needs}
 use Rattle.task.specs.Views.{line-of}
@@ -6,7 +5,7 @@ use Rattle.model.proofs.Facts.{scan-finds, scan-more}
 use Rattle.step.proofs.coupled.lacks.Needs as need
 
 pub returns-then-not-contains : need.returns-then-not-contains
-returns-then-not-contains g c = scan-finds _ (c .loop-b .b) (line-of (c .args .task .now) .moves) (c .loop-b .inv) (omega arith) (rw (← c .if-needs .ensures tt, ← c .if-not-contains .ensures tt) refl)
+returns-then-not-contains g c = scan-finds _ (c .loop-b .b) (line-of (c .args .task .now) .moves) (c .loop-b .inv) (omega arith) (search needs)
 
 pub loop-b-again : need.loop-b-again
 loop-b-again g c = search (needs, scan-more)
