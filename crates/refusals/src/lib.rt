@@ -2,7 +2,7 @@
 // Knows the numbers and layers of the questions. Knows nothing of what they are asked about.
 ghost use mathlib.Core.Path.{_≡_};
 ghost use Rattle.refusals.specs.Answers.{refusal};
-ghost use Rattle.refusals.specs.Numbers.{number-of, layer-of};
+ghost use Rattle.refusals.specs.Numbers.{number-of, layer-of, question};
 ghost use Rattle.refusals.specs.declared.Fault.the-variants.{Refused, Memory};
 use std::alloc::AllocError;
 use std::alloc::Refused as Unplaced;
@@ -54,8 +54,10 @@ impl Question {
         }
     }
 
+    // No two questions have the same number.
     pub fn number(self) -> u8
-        ensures { λ r. ⌜ r ≡ number-of self ⌝ }
+        ensures value { λ r. ⌜ r ≡ number-of self ⌝ }
+        ensures known { λ r. ⌜ question r ≡ self ⌝ }
     {
         match self {
             Question::Limit => 1,
