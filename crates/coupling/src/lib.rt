@@ -1,5 +1,7 @@
 // Couplings: which moves need, and which bar, each other in one step.
 // Knows moves only by their numbers, and answers for every number. Knows nothing of steps or plans.
+#![tactic(auto)]
+
 ghost use Rattle.std.specs.Prelude.{◌≡◌, ℕ, Bool, true, false, IfOk};
 ghost use Rattle.model.specs.Task.{written};
 ghost use Rattle.moves.specs.Lists.{literals_of};

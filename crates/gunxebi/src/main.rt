@@ -1,5 +1,7 @@
 // The program `gunxebi`: shows and checks tasks, judges plans, and shows what their steps do.
 // Knows files, standard input and output, and words. Leaves every verdict to the sequencer.
+#![tactic(auto)]
+
 mod args;
 mod batch;
 mod causes;

@@ -1,5 +1,7 @@
 // Why a call is refused: the question that was answered no, and where it was asked.
 // Knows the numbers and layers of the questions. Knows nothing of what they are asked about.
+#![tactic(auto)]
+
 ghost use Rattle.std.specs.Prelude.{◌≡◌};
 ghost use Rattle.refusals.specs.Answers.{refusal};
 ghost use Rattle.refusals.specs.Numbers.{number_of, layer_of, question};

@@ -1,5 +1,7 @@
 // The sequencer's calls: on tasks, couplings and plans, typed or as files.
 // Knows every layer below and adds none of its own meaning: each call is a composition of theirs.
+#![tactic(auto)]
+
 mod joint;
 
 pub use joint::{Joint, judge_joint, judge_joint_plan, judge_steps};

@@ -1,6 +1,8 @@
 // Sets of small numbers: fluents, moves or stations.
 // Knows that a set is kept as the bits of one number, which no other crate sees: contracts speak of members.
 // Inner to the workspace: `below`, `insert` and `any_below` presume numbers that fit, and every caller is proved.
+#![tactic(auto)]
+
 ghost use Rattle.std.specs.Prelude.{◌≡◌, ◌<◌, ◌≤◌};
 ghost use Rattle.model.specs.Sets.{none, with, either, meet, minus, below as under, subset, apart, any};
 ghost use Rattle.sets.specs.Members.{members};

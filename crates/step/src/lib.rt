@@ -1,5 +1,7 @@
 // A step of several stations at once: its record, whether it is allowed, and what it leaves.
 // Knows a task through what it answers, and any coupling. Knows nothing of files or plans.
+#![tactic(auto)]
+
 mod coupled;
 mod joint;
 mod record;

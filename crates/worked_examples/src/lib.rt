@@ -1,5 +1,7 @@
 // Worked examples of task files and of judging joint plans, proved or run as tests.
 // Knows files only as bytes, and answers as number and place.
+#![tactic(auto)]
+
 ghost use Rattle.std.specs.Prelude.{◌≡◌, Ok};
 ghost use Rattle.refusals.specs.Answers.{seen};
 ghost use Rattle.task_form.specs.Form.{form};

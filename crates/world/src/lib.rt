@@ -1,5 +1,7 @@
 // Worlds: a start, steps of a kind of their own, a rule for which step may be performed and what it leads to, a goal.
 // Knows plans only as lists of steps, and judges them by one text. Knows nothing of lines, tasks or files.
+#![tactic(auto)]
+
 ghost use Rattle.std.specs.Prelude.{◌≡◌, Result};
 ghost use Rattle.refusals.specs.declared.Question.{Question};
 ghost use Rattle.world.specs.Plans.{Performs, Ran, Judged};
