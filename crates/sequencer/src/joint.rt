@@ -63,7 +63,7 @@ impl<'t, 'c, C: Coupling> World for Joint<'t, 'c, C> {
 
 // Does the joint plan with these steps solve the task under the coupling?
 pub fn judge_steps<C: Coupling>(task: &Task, coupling: &C, steps: &[Step]) -> Result<(), Refusal>
-    ensures { Judged (λ s a. joint_leads (line_of task.now) (coupled_by (needed coupling.now) (barred coupling.now)) s (moves_of a)) (joint_ends (line_of task.now)) (line_of task.now).start steps.now result }
+    ensures { Judged (λ s a. joint_leads (line_of task.now) (coupled_by (C.needed coupling.now) (C.barred coupling.now)) s (moves_of a)) (joint_ends (line_of task.now)) (line_of task.now).start steps.now result }
 {
     judge(&Joint { task, coupling }, steps)
 }
@@ -75,7 +75,7 @@ pub fn judge_joint_plan<C: Coupling>(
     coupling: &C,
     plan: &[u8],
 ) -> Result<(), Fault>
-    ensures { Verdict (line_of task.now) (coupled_by (needed coupling.now) (barred coupling.now)) plan.now result }
+    ensures { Verdict (line_of task.now) (coupled_by (C.needed coupling.now) (C.barred coupling.now)) plan.now result }
 {
     let steps = read_joint(heap, task, plan)?;
     judge_steps(task, coupling, &steps)?;
@@ -89,8 +89,8 @@ pub fn judge_joint<C: Coupling>(
     coupling: &C,
     plan: &[u8],
 ) -> Result<(), Fault>
-    ensures filed { Filed (coupled_by (needed coupling.now) (barred coupling.now)) task.now plan.now result }
-    ensures exact { FileVerdict (coupled_by (needed coupling.now) (barred coupling.now)) task.now plan.now result }
+    ensures filed { Filed (coupled_by (C.needed coupling.now) (C.barred coupling.now)) task.now plan.now result }
+    ensures exact { FileVerdict (coupled_by (C.needed coupling.now) (C.barred coupling.now)) task.now plan.now result }
 {
     let read = Task::read(heap, task)?;
     judge_joint_plan(heap, &read, coupling, plan)

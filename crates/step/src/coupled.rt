@@ -11,7 +11,7 @@ use task::Task;
 
 // Is some move that `a` needs not among `moves`?
 pub fn lacks<C: Coupling>(task: &Task, coupling: &C, moves: IndexSet, a: u8) -> bool
-    ensures { result ≡ is_missing (line_of task.now) (coupled_by (needed coupling.now) (barred coupling.now)) (members moves) a }
+    ensures { result ≡ is_missing (line_of task.now) (coupled_by (C.needed coupling.now) (C.barred coupling.now)) (members moves) a }
 {
     for b in 0..task.moves() {
         if coupling.needs(a, b) && !moves.contains(b) {
@@ -23,7 +23,7 @@ pub fn lacks<C: Coupling>(task: &Task, coupling: &C, moves: IndexSet, a: u8) -> 
 
 // Is some move that `a` bars among `moves`?
 pub fn clashes<C: Coupling>(task: &Task, coupling: &C, moves: IndexSet, a: u8) -> bool
-    ensures { result ≡ is_barred (line_of task.now) (coupled_by (needed coupling.now) (barred coupling.now)) (members moves) a }
+    ensures { result ≡ is_barred (line_of task.now) (coupled_by (C.needed coupling.now) (C.barred coupling.now)) (members moves) a }
 {
     for b in 0..task.moves() {
         if coupling.bars(a, b) && moves.contains(b) {

@@ -32,7 +32,7 @@ pub fn some_unready(task: &Task, line: IndexSet, moves: IndexSet) -> bool
 
 // Does some move of the step need one that is not in it?
 pub fn some_lack<C: Coupling>(task: &Task, coupling: &C, moves: IndexSet) -> bool
-    ensures { result ≡ is_lacking (line_of task.now) (coupled_by (needed coupling.now) (barred coupling.now)) (members moves) }
+    ensures { result ≡ is_lacking (line_of task.now) (coupled_by (C.needed coupling.now) (C.barred coupling.now)) (members moves) }
 {
     for a in 0..task.moves() {
         if moves.contains(a) && lacks(task, coupling, moves, a) {
@@ -44,7 +44,7 @@ pub fn some_lack<C: Coupling>(task: &Task, coupling: &C, moves: IndexSet) -> boo
 
 // Does some move of the step bar one that is in it?
 pub fn some_clash<C: Coupling>(task: &Task, coupling: &C, moves: IndexSet) -> bool
-    ensures { result ≡ is_clashing (line_of task.now) (coupled_by (needed coupling.now) (barred coupling.now)) (members moves) }
+    ensures { result ≡ is_clashing (line_of task.now) (coupled_by (C.needed coupling.now) (C.barred coupling.now)) (members moves) }
 {
     for a in 0..task.moves() {
         if moves.contains(a) && clashes(task, coupling, moves, a) {
@@ -78,7 +78,7 @@ pub fn step_from<C: Coupling>(
     line: IndexSet,
     moves: IndexSet,
 ) -> Result<IndexSet, Question>
-    ensures { Performed (line_of task.now) (coupled_by (needed coupling.now) (barred coupling.now)) (members line) (members moves) result }
+    ensures { Performed (line_of task.now) (coupled_by (C.needed coupling.now) (C.barred coupling.now)) (members line) (members moves) result }
 {
     if some_unready(task, line, moves) {
         return Err(Question::Needs);

@@ -39,7 +39,7 @@ pub trait World {
 
 // The state after all steps, or the first refused step.
 pub fn run<W: World>(world: &W, steps: &[W::Step]) -> Result<W::State, Refusal>
-    ensures { Ran (leads world.now) model (begins world.now) steps.now result }
+    ensures { Ran (W.leads world.now) W.model (W.begins world.now) steps.now result }
 {
     let mut state = world.start();
     for (i, step) in steps.iter().enumerate() {
@@ -52,7 +52,7 @@ pub fn run<W: World>(world: &W, steps: &[W::Step]) -> Result<W::State, Refusal>
 
 // Do the steps, each performed where it is reached, lead to the goal?
 pub fn judge<W: World>(world: &W, steps: &[W::Step]) -> Result<(), Refusal>
-    ensures { Judged (leads world.now) (ends world.now) (begins world.now) steps.now result }
+    ensures { Judged (W.leads world.now) (W.ends world.now) (W.begins world.now) steps.now result }
 {
     let state = run(world, steps)?;
     match world.goal(&state) {

@@ -7,7 +7,7 @@ loop-i-init g c = sym c.start-state.ensures
 
 pub loop-i-preserved : goal.loop-i-preserved
 loop-i-preserved g c =
-    leads_more _ _ _ _ _ _ _ c.loop-i-test.true c.index-steps-i.is c.loop-i.invariant c.in-default.ensures
+    leads_more _ _ _ _ _ _ _ c.loop-i-test.true c.index-steps-i.is c.loop-i.invariant c.in_default.ensures
 
 pub returns-in-Err : goal.returns-in-Err
 returns-in-Err g c =

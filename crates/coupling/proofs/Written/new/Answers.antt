@@ -10,7 +10,7 @@ use Rattle.coupling.proofs.Written.new.Goals as goal
 pub loop-a-preserved : goal.loop-a-preserved
 loop-a-preserved c =
     filled_more (λ k. (move_at (task_of c.args.task.now).moves k).companions) c.loop-a.a (vec_items c.loop-a.rows) _ _ c.loop-a.invariant
-    c.companions.ensures c.in-ok-push.ensures.items
+    c.companions.ensures c.in_ok-push.ensures.items
 
 pub returns : goal.returns
 returns c =

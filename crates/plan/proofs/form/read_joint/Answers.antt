@@ -13,29 +13,29 @@ pub loop-rest-init : goal.loop-rest-init
 loop-rest-init c = (omega arith, all_left _ _ _ (ap (map operands_of) c.new-steps.ensures.items))
 
 -- no command: the walk stops there
-pub returns-in-err-command : goal.returns-in-err-command
-returns-in-err-command c =
+pub returns-in_err-command : goal.returns-in_err-command
+returns-in_err-command c =
     let L = line_of c.args.task.now in
-    let p = err_from_is_err_and c.from-residual.result c.from-residual.ensures.1 in
-    let stop = stops_first L _ _ _ _ c.loop-rest.invariant.1 _ (omega (arith, false-eqb _ 0 c.loop-rest-test.ensures)) c.in-err-command.ensures.value in
+    let p = err_from_is_err_and c.from_residual.result c.from_residual.ensures.1 in
+    let stop = stops_first L _ _ _ _ c.loop-rest.invariant.1 _ (omega (arith, false-eqb _ 0 c.loop-rest-test.ensures)) c.in_err-command.ensures.value in
     rw (p.1, p.2) (form_from L c.args.file.now _ (omega arith) stop)
 
 -- the operands of the step are refused
-pub returns-in-err-read-step : goal.returns-in-err-read-step
-returns-in-err-read-step c =
+pub returns-in_err-read-step : goal.returns-in_err-read-step
+returns-in_err-read-step c =
     let L = line_of c.args.task.now in
-    let p = err_from_is_err_and c.from-residual-in-err-read-step.result c.from-residual-in-err-read-step.ensures.1 in
-    let got = c.in-ok-command.ensures in
-    let stop = stops_step L _ _ _ _ c.loop-rest.invariant.1 _ _ got.value got.shorter _ c.in-err-read-step.ensures in
+    let p = err_from_is_err_and c.from_residual-in_err-read-step.result c.from_residual-in_err-read-step.ensures.1 in
+    let got = c.in_ok-command.ensures in
+    let stop = stops_step L _ _ _ _ c.loop-rest.invariant.1 _ _ got.value got.shorter _ c.in_err-read-step.ensures in
     rw (p.1, p.2) (form_from L c.args.file.now _ (omega arith) stop)
 
 pub loop-rest-preserved : goal.loop-rest-preserved
 loop-rest-preserved c =
     let L = line_of c.args.task.now in
-    let got = c.in-ok-command.ensures in (
+    let got = c.in_ok-command.ensures in (
       omega arith,
-      goes_on L _ _ _ _ c.loop-rest.invariant.1 _ _ got.value got.shorter _ _ c.in-ok-read-step.ensures
-          (mapped_push (vec_items c.loop-rest.steps) _ _ c.in-ok-push.ensures.items),
+      goes_on L _ _ _ _ c.loop-rest.invariant.1 _ _ got.value got.shorter _ _ c.in_ok-read-step.ensures
+          (mapped_push (vec_items c.loop-rest.steps) _ _ c.in_ok-push.ensures.items),
     )
 
 pub returns : goal.returns

@@ -9,4 +9,4 @@ pub returns : goal.returns
 returns c =
     let l = c.args.self.now in
     ap (λ vs. record { sizes = counts_of l.sizes; start = members l.start; goal = literals_of l.goal; moves = vs })
-    (pushed_means (vec_items l.moves) _ c.args.current c.in-ok-push.ensures.items)
+    (pushed_means (vec_items l.moves) _ c.args.current c.in_ok-push.ensures.items)

@@ -9,6 +9,6 @@ use Rattle.task_file.proofs.named.Lists.first.Goals as goal
 pub returns : goal.returns
 returns c =
     let z = c.in-Sizes in
-    first_lists z.stations z.fluents z.moves (counts_of c.in-ok-named.field-0) (members c.empty.result) (literals_of c.empty-2.result) (vec_items c.new.result)
-    c.in-ok-named.ensures c.empty.ensures c.empty-2.ensures c.new.ensures.items
+    first_lists z.stations z.fluents z.moves (counts_of c.in_ok-named.field-0) (members c.empty.result) (literals_of c.empty-2.result) (vec_items c.new.result)
+    c.in_ok-named.ensures c.empty.ensures c.empty-2.ensures c.new.ensures.items
     ∙ sym (ap first_named z.is)
