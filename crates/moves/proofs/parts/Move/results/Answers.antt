@@ -1,16 +1,22 @@
-use Rattle.std.proofs.Common.{rules}
+use Rattle.std.proofs.Common.{rules, arith, sym, ap, ◌∙◌, length-drop}
+use Rattle.std.proofs.lemmas.List.{drop_more}
+use Rattle.moves.specs.Lists.{literals_of}
 use Rattle.moves.proofs.Gathered.{effects_none, effects_more, effects_skip, effects_all}
 use Rattle.moves.proofs.parts.Move.results.Goals as goal
+use Rattle.moves.proofs.parts.Move.results.Goals.{then-triggered, else-triggered}
 
 pub loop-effect-init : goal.loop-effect-init
 loop-effect-init c = search (rules, effects_none)
 
-pub loop-effect-preserved-then-triggered : goal.loop-effect-preserved-then-triggered
-loop-effect-preserved-then-triggered c =
-    effects_more _ _ _ _ _ _ _ _ c.loop-effect.invariant c.in-Some.ensures.steps c.if-triggered.ensures c.union-all.ensures
-
 pub loop-effect-preserved : goal.loop-effect-preserved
-loop-effect-preserved c = effects_skip _ _ _ _ _ _ _ c.loop-effect.invariant c.in-Some.ensures.steps c.if-triggered.ensures
+loop-effect-preserved c =
+    elim c.if-triggered.branch [
+      | then-triggered w ↦
+          effects_more _ _ _ _ _ _ _ _ c.loop-effect.invariant (drop_more _ _ _ c.loop-effect-test.true) (sym w.if-triggered.true ∙ c.triggered.ensures)
+          (ap literals_of w.all-is ∙ w.union-all.ensures)
+      | else-triggered w ↦
+          rw w.all-is (effects_skip _ _ _ _ _ _ _ c.loop-effect.invariant (drop_more _ _ _ c.loop-effect-test.true) (sym w.if-triggered.false ∙ c.triggered.ensures))
+    ]
 
 pub returns : goal.returns
-returns c = effects_all _ _ _ _ _ c.loop-effect.invariant c.in-None.ensures.steps.0
+returns c = effects_all _ _ _ _ _ c.loop-effect.invariant (simp length-drop (omega arith))

@@ -1,4 +1,4 @@
-use Rattle.std.proofs.Common.{◌≡◌, map, vec_items}
+use Rattle.std.proofs.Common.{◌≡◌, map, drop, vec_items}
 use Rattle.model.specs.Sets.{both}
 use Rattle.model.specs.Task.{results}
 use Rattle.sets.specs.Members.{members}
@@ -11,4 +11,4 @@ abbrev pub invariant-loop-effect : goal.invariant-loop-effect
 invariant-loop-effect l =
     let s = members l.line in
     let S = members l.moves in
-    both (literals_of l.all) (results (map effect_of l.effect-iterator.rest.now) s S) ≡ results (map effect_of (vec_items l.self.effects)) s S
+    both (literals_of l.all) (results (map effect_of (drop l.effect-index l.effect-items)) s S) ≡ results (map effect_of (vec_items l.self.effects)) s S
