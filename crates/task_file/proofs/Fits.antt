@@ -104,6 +104,9 @@ module _ (n f m : ℕ) (v : Move) (e : Effect) (h : (move_stands n f m (move_of 
   now_fits : (move_stands n f m (move_of v) ≡ true) × (effect_fits f m (effect_of e) ≡ true)
   now_fits = and_parts (move_stands n f m (move_of v)) (effect_fits f m (effect_of e)) h
 
+  pub move_now_stands : move_stands n f m (move_of v) ≡ true
+  move_now_stands = now_fits.0
+
   pub effect_now_fits : effect_fits f m (effect_of e) ≡ true
   effect_now_fits = now_fits.1
 

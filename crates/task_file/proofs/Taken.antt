@@ -1,10 +1,10 @@
 -- What the code holds after a command is what the definitions say. Assumes nothing.
-use Rattle.std.proofs.Common.{◌≡◌, ℕ, suc, ◌+◌, ◌<◌, ◌≤◌, Bool, true, false, cond, ◌&&◌, eqb, ltb, List, [], ◌∷◌, ◌++◌, map, length, Ok, vec_items, vec_len, Result, sym, ap, ◌∙◌, add-one, arith, le-ltb, lt-ltb}
+use Rattle.std.proofs.Common.{◌≡◌, ℕ, suc, ◌+◌, ◌<◌, ◌≤◌, Bool, true, false, cond, ◌&&◌, eqb, ltb, List, [], ◌∷◌, ◌++◌, map, length, Ok, vec_items, vec_len, Result, refl, sym, ap, ◌∙◌, add-one, arith, le-ltb, lt-ltb}
 use lib.ListN.{length-map}
 use Rattle.std.proofs.lemmas.List.{map_push}
 use Rattle.refusals.specs.declared.Question.TheVariants as Q
 use Rattle.refusals.specs.declared.Refusal.{Refusal}
-use Rattle.refusals.specs.Answers.{refused}
+use Rattle.refusals.specs.Answers.{refused, seen}
 use Rattle.model.specs.Sets.{Set, Literals, none, no_literals}
 use Rattle.model.specs.Task as model
 use Rattle.model.specs.Task.{no_effect}
@@ -12,10 +12,11 @@ use Rattle.moves.specs.Lists.{literals_of}
 use Rattle.moves.specs.Parts.{effect_of, move_of, Extends}
 use Rattle.moves.specs.declared.parts.Effect.{Effect}
 use Rattle.moves.specs.declared.parts.Move.{Move}
+use Rattle.task_command.specs.declared.command.Command.{Command}
 use Rattle.task_command.specs.declared.command.Command.TheVariants as C
 use Rattle.task_form.specs.Denoted.{Counts}
 use Rattle.task_form.specs.Questions.{up_to}
-use Rattle.task_form.specs.Reading.{Named, move, effect, ended, new_move, with_effect, first_named, begins, ends, in_effect}
+use Rattle.task_form.specs.Reading.{Named, move, effect, ended, new_move, with_effect, first_named, extended, begins, ends, in_effect}
 use Rattle.task_file.specs.Views.{named_of, sized}
 use Rattle.task_file.specs.declared.named.Lists.{Lists}
 
@@ -59,6 +60,21 @@ module _ (n : Named) (v : model.Move) (e : model.Effect) (p k : ℕ) (len : leng
 
   pub effects_more : (w : model.Move) (f : model.Effect) → w ≡ with_effect v e → f ≡ no_effect → true ≡ ltb (k + 1) 8 → in_effect n v e C.Effect p ≡ Ok (n, effect w f)
   effects_more w f a b h = rw (len, ← add-one k, ← h, a, b)
+
+-- a command in an effect that neither ends it nor begins another
+pub in_effect_longer : (n : Named) (v : model.Move) (e : model.Effect) (k : Command) (p : ℕ) → ((s : ℕ) → k ≡ C.Move s → ⊥) → (k ≡ C.Effect → ⊥) → (k ≡ C.End → ⊥)
+    → in_effect n v e k p ≡ seen (λ y. (n, effect v y)) (extended n.sizes e k p)
+in_effect_longer n v e (C.Sizes a b c) p h g f = refl
+in_effect_longer n v e (C.Start k) p h g f = refl
+in_effect_longer n v e (C.Goal x) p h g f = refl
+in_effect_longer n v e (C.Move s) p h g f = absurd (h s refl)
+in_effect_longer n v e (C.Need x) p h g f = refl
+in_effect_longer n v e (C.With x) p h g f = refl
+in_effect_longer n v e C.Effect p h g f = absurd (g refl)
+in_effect_longer n v e (C.If x) p h g f = refl
+in_effect_longer n v e (C.IfMove x) p h g f = refl
+in_effect_longer n v e (C.Then x) p h g f = refl
+in_effect_longer n v e C.End p h g f = absurd (f refl)
 
 pub effects_counted : (v : Move) → length (move_of v).effects ≡ vec_len v.effects
 effects_counted v = length-map (vec_items v.effects) effect_of ∙ sym v.effects.ok.0
