@@ -1,6 +1,6 @@
 -- Reading command by command asks the questions as they are defined, and holds what the commands so far name. Assumes
 -- nothing.
-use Rattle.std.proofs.Common.{◌≡◌, ℕ, ◌+◌, Bool, true, false, cond, not, ◌||◌, eqb, List, [], ◌∷◌, ◌++◌, map, length, Ok, Err, Result, refl, ap, ◌∙◌, subst}
+use Rattle.std.proofs.Common.{◌≡◌, ℕ, Bool, true, false, cond, not, ◌||◌, eqb, List, [], ◌∷◌, ◌++◌, map, length, Ok, Err, Result, refl, ap, ◌∙◌, subst}
 use mathlib.Core.Option.{Option, none, some}
 use Rattle.refusals.specs.declared.Question.{Question}
 use Rattle.refusals.specs.declared.Question.TheVariants as Q
@@ -10,7 +10,6 @@ use Rattle.model.specs.Sets.{Literals, no_literals, both, plus}
 use Rattle.model.specs.Task as model
 use Rattle.moves.proofs.Lits.{literals_ext, both_none}
 use Rattle.task_command.specs.declared.command.Command.{Command}
-use Rattle.task_command.specs.declared.command.Command.TheVariants.{Move, Effect}
 use Rattle.task_form.specs.Lists.{is, only, says, listed, Stretch, stretches}
 use Rattle.task_form.specs.Denoted.{sizes}
 use Rattle.task_form.specs.Denoted as meaning

@@ -1,6 +1,6 @@
 -- Each command, in each part of a file: the question answered no is the defined one, and otherwise what is read stands
 -- for the commands up to it. Assumes nothing.
-use Rattle.std.proofs.Common.{◌≡◌, ℕ, suc, ◌+◌, Bool, true, false, ◌&&◌, eqb, ltb, List, [], ◌∷◌, ◌++◌, map, length, sym, refl, ap, ◌∙◌, ap₂, arith, length-append, true-eqb}
+use Rattle.std.proofs.Common.{◌≡◌, ℕ, suc, Bool, true, false, ◌&&◌, eqb, ltb, List, [], ◌∷◌, ◌++◌, map, length, sym, refl, ap, ◌∙◌, ap₂, arith, length-append, true-eqb}
 use lib.ListN.{length-map}
 use Rattle.std.proofs.lemmas.List.{map_push}
 use Rattle.refusals.specs.declared.Question.TheVariants as Q

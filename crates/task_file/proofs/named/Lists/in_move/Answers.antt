@@ -1,4 +1,4 @@
-use Rattle.std.proofs.Common.{sym, ap, ◌∙◌, subst, Ok, refl}
+use Rattle.std.proofs.Common.{sym, ap, ◌∙◌, subst, Ok}
 use Rattle.std.proofs.lemmas.Bool.{and_from}
 use Rattle.model.specs.Task as model
 use Rattle.moves.specs.Parts.{move_of}
