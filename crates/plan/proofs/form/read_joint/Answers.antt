@@ -2,7 +2,6 @@ use Rattle.std.proofs.Common.{map, vec_items, ap, arith, true-eqb, false-eqb}
 use Rattle.std.proofs.lemmas.Result.{err_from_is_err_and}
 use Rattle.task.specs.Views.{line_of}
 use Rattle.step.specs.Views.{operands_of}
-use Rattle.plan.specs.Commands.{operands}
 use Rattle.plan.proofs.Walks.{all_left, none_left, stops_first, stops_step, goes_on, form_from, over_limit, mapped_push}
 use Rattle.plan.proofs.form.read_joint.Goals as goal
 
