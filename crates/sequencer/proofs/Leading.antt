@@ -1,10 +1,11 @@
 -- What a step answers is what it leads to in the joint world; steps are judged as their operands are. Assumes nothing.
-use Rattle.std.proofs.Common.{◌≡◌, ℕ, zero, suc, List, [], ◌∷◌, map, take, drop, Ok, Err, Result, sym, refl, ap, ◌∙◌, subst, ap₂, inl, inr}
+use Rattle.std.proofs.Common.{◌≡◌, ℕ, zero, suc, List, [], ◌∷◌, map, length, take, drop, Ok, Err, Result, sym, refl, ap, ◌∙◌, subst, ap₂, inl, inr}
 use lib.ListN.{length-map}
 use Rattle.refusals.specs.declared.Question.{Question}
 use Rattle.refusals.specs.declared.Refusal.{Refusal}
 use Rattle.refusals.specs.declared.Fault.{Fault}
 use Rattle.refusals.specs.declared.Fault.TheVariants.{Refused, Memory}
+use Rattle.refusals.specs.Answers.{Within}
 use Rattle.refusals.proofs.Distinct.{question_number}
 use Rattle.model.specs.Sets.{Set}
 use Rattle.model.specs.Line.{Line, Coupling}
@@ -83,3 +84,8 @@ pub filed : (K : Coupling) (task plan : List ℕ) (t : Task) (r : Result (Unit {
 filed K task plan t (Ok u) v = (t, v)
 filed K task plan t (Err (Refused e)) v = inr (t, v)
 filed K task plan t (Err Memory) v = tt
+
+-- a task file that was refused is so by a question of form
+pub unfiled : (K : Coupling) (task plan : List ℕ) (e : Fault) → Within (length task) e → Filed K task plan (Err e)
+unfiled K task plan (Refused e) h = inl h
+unfiled K task plan Memory h = tt

@@ -2,7 +2,6 @@ use Rattle.std.proofs.Common.{map, vec_items, ap, arith, true-eqb, false-eqb}
 use Rattle.std.proofs.lemmas.Result.{err_from_is_err_and}
 use Rattle.task.specs.Views.{line_of}
 use Rattle.step.specs.Views.{operands_of}
-use Rattle.plan.specs.Commands.{operands}
 use Rattle.plan.proofs.Walks.{all_left, none_left, stops_first, stops_step, goes_on, form_from, over_limit, mapped_push}
 use Rattle.plan.proofs.form.read_joint.Goals as goal
 
@@ -21,12 +20,12 @@ returns-in_err-command c =
     rw (p.1, p.2) (form_from L c.args.file.now _ (omega arith) stop)
 
 -- the operands of the step are refused
-pub returns-in_err-read-step : goal.returns-in_err-read-step
-returns-in_err-read-step c =
+pub returns-in_err-read_step : goal.returns-in_err-read_step
+returns-in_err-read_step c =
     let L = line_of c.args.task.now in
-    let p = err_from_is_err_and c.from_residual-in_err-read-step.result c.from_residual-in_err-read-step.ensures.1 in
+    let p = err_from_is_err_and c.from_residual-in_err-read_step.result c.from_residual-in_err-read_step.ensures.1 in
     let got = c.in_ok-command.ensures in
-    let stop = stops_step L _ _ _ _ c.loop-rest.invariant.1 _ _ got.value got.shorter _ c.in_err-read-step.ensures in
+    let stop = stops_step L _ _ _ _ c.loop-rest.invariant.1 _ _ got.value got.shorter _ c.in_err-read_step.ensures in
     rw (p.1, p.2) (form_from L c.args.file.now _ (omega arith) stop)
 
 pub loop-rest-preserved : goal.loop-rest-preserved
@@ -34,7 +33,7 @@ loop-rest-preserved c =
     let L = line_of c.args.task.now in
     let got = c.in_ok-command.ensures in (
       omega arith,
-      goes_on L _ _ _ _ c.loop-rest.invariant.1 _ _ got.value got.shorter _ _ c.in_ok-read-step.ensures
+      goes_on L _ _ _ _ c.loop-rest.invariant.1 _ _ got.value got.shorter _ _ c.in_ok-read_step.ensures
           (mapped_push (vec_items c.loop-rest.steps) _ _ c.in_ok-push.ensures.items),
     )
 

@@ -14,13 +14,13 @@ loop-a-preserved c =
     elim c.if-contains.branch [
       | then-contains w ↦ (
         gather_more (L.sets s S) S (members c.loop-a.made) c.loop-a.a c.loop-a.invariant.0 (members c.if-contains.made) w.if-contains.ensures
-            (ap members w.made_is ∙ w.union-made.ensures ∙ ap (either (members c.loop-a.made)) w.results-results.ensures.sets),
+            (ap members w.made-is ∙ w.union-made.ensures ∙ ap (either (members c.loop-a.made)) w.results-results.ensures.sets),
         gather_more (L.clears s S) S (members c.loop-a.unmade) c.loop-a.a c.loop-a.invariant.1 (members c.if-contains.unmade) w.if-contains.ensures
-            (ap members w.unmade_is ∙ w.union-unmade.ensures ∙ ap (either (members c.loop-a.unmade)) w.results-results.ensures.clears),
+            (ap members w.unmade-is ∙ w.union-unmade.ensures ∙ ap (either (members c.loop-a.unmade)) w.results-results.ensures.clears),
       )
       | else-contains w ↦ (
-        gather_skip (L.sets s S) S (members c.loop-a.made) c.loop-a.a c.loop-a.invariant.0 (members c.if-contains.made) w.if-contains.ensures (ap members w.made_is),
-        gather_skip (L.clears s S) S (members c.loop-a.unmade) c.loop-a.a c.loop-a.invariant.1 (members c.if-contains.unmade) w.if-contains.ensures (ap members w.unmade_is),
+        gather_skip (L.sets s S) S (members c.loop-a.made) c.loop-a.a c.loop-a.invariant.0 (members c.if-contains.made) w.if-contains.ensures (ap members w.made-is),
+        gather_skip (L.clears s S) S (members c.loop-a.unmade) c.loop-a.a c.loop-a.invariant.1 (members c.if-contains.unmade) w.if-contains.ensures (ap members w.unmade-is),
       )
     ]
 

@@ -4,19 +4,19 @@ use Rattle.step.specs.Outcome.{coupled_by}
 use Rattle.step.proofs.Questions.{step_torn, step_allowed, step_after}
 use Rattle.step.proofs.joint.step_from.Goals as goal
 
-pub returns-then-any-below : goal.returns-then-any-below
-returns-then-any-below g c =
+pub returns-then-any_below : goal.returns-then-any_below
+returns-then-any_below g c =
     let K = coupled_by (g.C.Coupling.needed c.args.coupling.now) (g.C.Coupling.barred c.args.coupling.now) in
-    step_torn (line_of c.args.task.now) K (members c.args.line) (members c.args.moves) c.if-some-unready.ensures c.if-some-lack.ensures c.if-some-clash.ensures
-    _ _ c.joint-changes-changes.ensures.made c.joint-changes-changes.ensures.unmade c.fluents.result (members c.intersection.result) c.fluents.ensures.value c.intersection.ensures
-    c.if-any-below.ensures
+    step_torn (line_of c.args.task.now) K (members c.args.line) (members c.args.moves) c.if-some_unready.ensures c.if-some_lack.ensures c.if-some_clash.ensures
+    _ _ c.joint_changes-changes.ensures.made c.joint_changes-changes.ensures.unmade c.fluents.result (members c.intersection.result) c.fluents.ensures.value c.intersection.ensures
+    c.if-any_below.ensures
 
 pub returns : goal.returns
 returns g c =
     let K = coupled_by (g.C.Coupling.needed c.args.coupling.now) (g.C.Coupling.barred c.args.coupling.now) in (
-      step_allowed (line_of c.args.task.now) K (members c.args.line) (members c.args.moves) c.if-some-unready.ensures c.if-some-lack.ensures c.if-some-clash.ensures
-          _ _ c.joint-changes-changes.ensures.made c.joint-changes-changes.ensures.unmade c.fluents.result (members c.intersection.result) c.fluents.ensures.value c.intersection.ensures
-          c.if-any-below.ensures,
-      step_after (line_of c.args.task.now) (members c.args.line) (members c.args.moves) _ _ _ _ c.joint-changes-changes.ensures.made c.joint-changes-changes.ensures.unmade
+      step_allowed (line_of c.args.task.now) K (members c.args.line) (members c.args.moves) c.if-some_unready.ensures c.if-some_lack.ensures c.if-some_clash.ensures
+          _ _ c.joint_changes-changes.ensures.made c.joint_changes-changes.ensures.unmade c.fluents.result (members c.intersection.result) c.fluents.ensures.value c.intersection.ensures
+          c.if-any_below.ensures,
+      step_after (line_of c.args.task.now) (members c.args.line) (members c.args.moves) _ _ _ _ c.joint_changes-changes.ensures.made c.joint_changes-changes.ensures.unmade
           c.difference.ensures c.union.ensures,
     )
