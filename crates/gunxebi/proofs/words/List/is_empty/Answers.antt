@@ -4,4 +4,4 @@ use Rattle.model.specs.Sets.{any}
 use Rattle.gunxebi.proofs.words.List.is_empty.Goals as goal
 
 pub returns : goal.returns
-returns c = ap not (c.any-below.ensures ∙ ap (any 128) c.union.ensures)
+returns c = ap not (c.any_below.ensures ∙ ap (any 128) c.union.ensures)
