@@ -56,8 +56,12 @@ fn solve(heap: Global, line: &Line) -> Result<(), Unsolved> {
 // Answers every line. What waits is written whenever no more requests have been read.
 pub fn answer_all(rt: &HostRuntime) -> Result<(), Trouble> {
     let heap = rt.alloc();
-    let mut input = BufReader::new(heap, rt.stdin())?;
-    let mut output = BufWriter::new(heap, rt.stdout())?;
+    let Ok(mut input) = BufReader::new(heap, rt.stdin()) else {
+        return Err(Trouble::Memory);
+    };
+    let Ok(mut output) = BufWriter::new(heap, rt.stdout()) else {
+        return Err(Trouble::Memory);
+    };
     let mut line = Line::new(heap);
     for _ in 0..u64::MAX {
         match read_line(&mut input, &mut line) {

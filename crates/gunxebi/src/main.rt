@@ -25,6 +25,7 @@ use batch::answer_all;
 use check::{check_task, show_task};
 use ending::{Ended, Trouble};
 use show::judge;
+use std::process::ExitCode;
 
 const USAGE: &str = "gunxebi judges plans for the changeover of a packaging line.
 
@@ -50,10 +51,6 @@ const TASK: &str = "examples/tray-lift/tray-lift.task";
 
 const PLAN: &str = "examples/tray-lift/both.plan";
 
-// The status 1. What there is to say has been printed.
-#[derive(Clone, Copy)]
-struct Failed;
-
 fn run(rt: &HostRuntime) -> Result<Ended, Trouble> {
     match args::read(rt)? {
         Command::Example => {
@@ -75,13 +72,14 @@ fn run(rt: &HostRuntime) -> Result<Ended, Trouble> {
     }
 }
 
-fn main(rt: HostRuntime) -> Result<(), Failed> {
+// The status 1 says no more than what has been printed.
+fn main(rt: HostRuntime) -> ExitCode {
     match run(&rt) {
-        Ok(Ended::Well) => Ok(()),
-        Ok(Ended::Refused) => Err(Failed),
+        Ok(Ended::Well) => ExitCode::SUCCESS,
+        Ok(Ended::Refused) => ExitCode::FAILURE,
         Err(trouble) => {
             let _ = eprintln!(rt; "gunxebi: {trouble}");
-            Err(Failed)
+            ExitCode::FAILURE
         }
     }
 }

@@ -37,7 +37,7 @@ pub fn read<'a>(line: &'a [u8]) -> Result<Request<'a>, Flaw> {
         return Err(Flaw::EmptyLine);
     }
     let (name, fields) = cut(line, b' ');
-    if name != b"judge-joint" {
+    if name != b"judge-joint".as_slice() {
         return Err(unanswered(name));
     }
     judge_joint(fields)
@@ -57,9 +57,10 @@ fn judge_joint<'a>(fields: Option<&'a [u8]>) -> Result<Request<'a>, Flaw> {
 // Is the coupling the written one? Others are 'footprint', and both with pairs of a lockout after a '+'.
 fn ask_coupling(coupling: &[u8]) -> Result<(), Flaw> {
     let (base, pairs) = cut(coupling, b'+');
-    if base == b"written" && pairs.is_none() {
+    let is_written = base == b"written".as_slice();
+    if is_written && pairs.is_none() {
         Ok(())
-    } else if base == b"written" || base == b"footprint" {
+    } else if is_written || base == b"footprint".as_slice() {
         Err(Flaw::NotYet)
     } else {
         Err(Flaw::UnknownCoupling)
