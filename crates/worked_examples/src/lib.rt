@@ -133,6 +133,7 @@ mod tests {
     #[test]
     fn table_of_damaged_tasks(rt: HostRuntime) -> Result<(), Fail> {
         let heap = rt.alloc();
+        assert_eq!(rt; read(heap, &tray_lift())?, None, "not damaged");
         play(&rt, heap, &COMMANDS)?;
         play(&rt, heap, &ORDER)?;
         play(&rt, heap, &SIZES)?;
