@@ -1,7 +1,7 @@
 -- The task of the tray lift: fluents are left side up (0), right side up (1) and load on tray (2); move 0 lifts the left
 -- side, move 1 the right. Assumes nothing.
 use Rattle.std.specs.Prelude.{[], ◌∷◌}
-use Rattle.worked_examples.specs.Shown.{EffectShown, MoveShown, TaskShown}
+use Rattle.worked_examples.specs.Shown.{MoveShown, TaskShown}
 
 -- a side that is lifted alone drops the load: if the other side is down, the load is on the tray and the other move is
 -- not in the step
