@@ -17,6 +17,8 @@ import sys
 
 NAME = r"[A-Za-zμ_][\w'₀-₉-]*"
 OTHER = {"bit-and": "bit_of_and", "bit-or": "bit_of_or"}
+# Types that the kit's script put into snake case, since a library has a word of the same spelling.
+SNAKED = {"Read_in": "ReadIn"}
 APART = {"in-effect", "in-lists", "in-move", "in-range", "is-first", "move-of", "with-effect"}
 HEAD = re.compile(r"\s*(?:(?:pub|abbrev|opaque|unfoldable)\s+)*(?:(?:record|data)\s+)?(" + NAME + r")(?:\s+[^=:]*)?\s*:(?:\s|$)")
 LET = re.compile(r"\blet\s+(" + NAME + r")\s+[\w' ]*(?::|=)")
@@ -78,6 +80,7 @@ def main():
                 libraries.update(re.split(r"[\s,]+", m[2]))
     shared = own & libraries
     new = {n: respelled(n) for n in own - shared}
+    new.update((n, s) for n, s in SNAKED.items() if n in words)
     together = sorted(n for n, s in new.items() if s in words) + sorted(shared)
     if set(together) - APART:
         print("respell: would fall together: " + " ".join(n for n in together if n not in APART))

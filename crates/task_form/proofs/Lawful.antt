@@ -12,7 +12,7 @@ use Rattle.task_form.proofs.Spelling.{spelled_width}
 use Rattle.task_form.proofs.Admitting.{Told, form_told}
 use Rattle.task_form.proofs.SoundLine.{bounded_sound}
 use Rattle.task_form.proofs.Fitting.{FitNamed, bytes, reads_grows, first_fits}
-use Rattle.task_form.proofs.ReadIn.{Read_in, form_read}
+use Rattle.task_form.proofs.ReadIn.{ReadIn, form_read}
 use Rattle.task_form.proofs.ReadThrough.{never_read}
 use Rattle.task_form.proofs.GrammarAccepted.{accepted_is_text}
 use Rattle.task_form.proofs.Grammar.{text_is_accepted}
@@ -31,7 +31,7 @@ module _ (n : Named) (f : FitNamed n) (counted : length n.moves ≡ n.sizes.move
   bytes_task : bytes n ended ≡ task_bytes (task_named n)
   bytes_task = rw counted (omega arith)
 
-within_bounds : (bs : List ℕ) (t : Task) → Read_in bs t → Bounded t × (length bs ≡ task_bytes t)
+within_bounds : (bs : List ℕ) (t : Task) → ReadIn bs t → Bounded t × (length bs ≡ task_bytes t)
 within_bounds bs t r =
     let f = first_fits r.head r.at_first r.is_first in
     let g = reads_grows r.at_first lists r.tail (r.at_last, ended) f.0 r.is_read in

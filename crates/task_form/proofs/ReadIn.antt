@@ -12,7 +12,7 @@ use Rattle.task_form.proofs.Agrees.{Stands}
 use Rattle.task_form.proofs.Admitting.{Admits, Admitted, Told, form_told}
 use Rattle.task_form.proofs.ReadThrough.{reads, admits_whole}
 
-pub record Read_in (bs : List ℕ) (t : Task) : Type 0 where
+pub record ReadIn (bs : List ℕ) (t : Task) : Type 0 where
   pub head : Command
   pub tail : List Command
   pub spelled : Spelled (head ∷ tail) bs
@@ -29,10 +29,10 @@ ended_only before n (move v) s e = absurd (both_ways _ (ap at_end s.at.place) e)
 ended_only before n (effect v f) s e = absurd (both_ways _ (ap at_end s.at.place) e)
 ended_only before n ended s e = refl
 
-admitted_read : (bs : List ℕ) (t : Task) → Admitted [] bs t → Read_in bs t
+admitted_read : (bs : List ℕ) (t : Task) → Admitted [] bs t → ReadIn bs t
 admitted_read bs t a = by a.commands a.spelled a.admitted a.over a.named
   where
-    by : (cs : List Command) → Spelled cs bs → Admits [] cs → at_end (part cs) ≡ true → t ≡ denoted cs → Read_in bs t
+    by : (cs : List Command) → Spelled cs bs → Admits [] cs → at_end (part cs) ≡ true → t ≡ denoted cs → ReadIn bs t
     by [] s d o n = absurd (both_ways _ refl o)
     by (c ∷ cs) s d o n =
         let w = admits_whole c cs d in
@@ -50,5 +50,5 @@ admitted_read bs t a = by a.commands a.spelled a.admitted a.over a.named
           stands = subst (Stands (c ∷ cs) r.after.0) k r.stands;
         }
 
-pub form_read : (bs : List ℕ) (t : Task) → form bs ≡ Ok t → Read_in bs t × (length bs ≤ 8192)
+pub form_read : (bs : List ℕ) (t : Task) → form bs ≡ Ok t → ReadIn bs t × (length bs ≤ 8192)
 form_read bs t e = let a = subst (Told bs) e (form_told bs) in (admitted_read bs t a.0, a.1)
