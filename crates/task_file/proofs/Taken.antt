@@ -1,5 +1,5 @@
 -- What the code holds after a command is what the definitions say. Assumes nothing.
-use Rattle.std.proofs.Common.{◌≡◌, ℕ, ◌+◌, ◌<◌, ◌≤◌, Bool, true, false, cond, ◌&&◌, eqb, ltb, List, [], ◌∷◌, ◌++◌, map, length, Ok, vec_items, vec_len, Result, refl, sym, ap, ◌∙◌, add-one, arith, le-ltb, lt-ltb}
+use Rattle.std.proofs.Common.{◌≡◌, ℕ, ◌+◌, ◌<◌, ◌≤◌, Bool, true, false, cond, ◌&&◌, ltb, List, [], ◌∷◌, ◌++◌, map, length, Ok, vec_items, vec_len, Result, refl, sym, ap, ◌∙◌, add-one, arith, le-ltb, lt-ltb}
 use lib.ListN.{length-map}
 use Rattle.std.proofs.lemmas.List.{map_push}
 use Rattle.refusals.specs.declared.Question.TheVariants as Q
@@ -16,7 +16,7 @@ use Rattle.task_command.specs.declared.command.Command.{Command}
 use Rattle.task_command.specs.declared.command.Command.TheVariants as C
 use Rattle.task_form.specs.Denoted.{Counts}
 use Rattle.task_form.specs.Questions.{up_to}
-use Rattle.task_form.specs.Reading.{Named, move, effect, ended, new_move, with_effect, first_named, extended, begins, ends, in_effect}
+use Rattle.task_form.specs.Reading.{Named, move, effect, new_move, with_effect, first_named, extended, begins, in_effect}
 use Rattle.task_file.specs.Views.{named_of, sized}
 use Rattle.task_file.specs.declared.named.Lists.{Lists}
 
@@ -32,12 +32,6 @@ module _ (n : Named) (k s p : ℕ) (len : length n.moves ≡ k) where
 
   pub begins_new : (v : model.Move) → v ≡ new_move s → true ≡ ltb k n.sizes.moves → s < n.sizes.stations → begins n s p ≡ Ok (n, move v)
   begins_new v e h g = rw (len, ← h, lt-ltb s n.sizes.stations g, e)
-
-  pub ends_early : false ≡ eqb k n.sizes.moves → ends n p ≡ refused Q.Order p
-  ends_early h = rw (len, ← h)
-
-  pub ends_complete : true ≡ eqb k n.sizes.moves → ends n p ≡ Ok (n, ended)
-  ends_complete h = rw (len, ← h)
 
 -- a move that has just begun
 pub new_is : (s : ℕ) (p q : Literals) (es : List Effect) → p ≡ no_literals → q ≡ no_literals → es ≡ []

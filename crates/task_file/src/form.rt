@@ -1,5 +1,5 @@
 // The form of a task file, command by command.
-ghost use Rattle.std.specs.Prelude.{◌≡◌, ◌+◌, true, IfOk, IfErr, vec_len, ◌==◌, nat_lt};
+ghost use Rattle.std.specs.Prelude.{◌≡◌, ◌+◌, true, IfOk, IfErr, vec_len, nat_lt};
 ghost use Rattle.model.specs.Task.{effect_fits, move_fits};
 ghost use Rattle.refusals.specs.Answers.{Asked, seen};
 ghost use Rattle.moves.specs.Parts.{effect_of, move_of};
@@ -86,13 +86,6 @@ impl Lists {
         self.moves.len() < self.sizes.moves as usize
     }
 
-    // Are all moves there?
-    fn is_complete(&self) -> bool
-        ensures { result ≡ (vec_len self.now.moves == self.now.sizes.moves) }
-    {
-        self.moves.len() == self.sizes.moves as usize
-    }
-
     // A new move at MOVE, unless the last one was there already.
     fn begin(&self, heap: Global, station: u8, place: usize) -> Result<Part, Fault>
         ensures taken { Taken place self.now result }
@@ -117,7 +110,7 @@ impl Lists {
         ensures taken { Taken place self.now result }
         ensures took { Took (ends (named_of self.now) place) self.now result }
     {
-        if !self.is_complete() {
+        if self.moves.len() != self.sizes.moves as usize {
             return Err(Fault::Refused(Question::Order.at(place)));
         }
         Ok(Part::Ended)
