@@ -1,4 +1,5 @@
--- What holds of every task: each number is within its size, and stands at most once in its list. Assumes nothing.
+-- What holds of every task: each number is within its size, and none stands both plain and with "not" in one list.
+-- Assumes nothing.
 use Rattle.std.specs.Prelude.{◌≡◌, Bool, true, false, List, [], ◌∷◌, ℕ, ◌<◌, ◌≤◌, length}
 use Rattle.model.specs.Sets.{Literals}
 use Rattle.model.specs.Task.{Effect, Move, Task}

@@ -1,6 +1,6 @@
 // When an effect is triggered, and what a move does.
 ghost use Rattle.std.specs.Prelude.{◌≡◌, IfOk};
-ghost use Rattle.model.specs.Task.{no_effect, triggered as is_triggered, results as AllResults};
+ghost use Rattle.model.specs.Task.{no_effect, triggered as is_triggered, results as all_results};
 ghost use Rattle.sets.specs.Members.{members};
 ghost use Rattle.moves.specs.Lists.{literals_of};
 ghost use Rattle.moves.specs.Parts.{effect_of, move_of, Extends};
@@ -41,7 +41,7 @@ impl Move {
 
     // The results of its triggered effects.
     pub fn results(&self, line: IndexSet, moves: IndexSet) -> Literals
-        ensures { literals_of result ≡ AllResults (move_of self.now).effects (members line) (members moves) }
+        ensures { literals_of result ≡ all_results (move_of self.now).effects (members line) (members moves) }
     {
         let mut all = Literals::empty();
         for effect in &self.effects {
