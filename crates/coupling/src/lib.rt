@@ -2,11 +2,12 @@
 // Knows moves only by their numbers, and answers for every number. Knows nothing of steps or plans.
 #![tactic(auto)]
 
-ghost use Rattle.std.specs.Prelude.{◌≡◌, ℕ, Bool, true, false, IfOk};
+ghost use Rattle.std.specs.Prelude.{◌≡◌, IfOk};
+ghost use Rattle.model.specs.Line.{Coupling as Relations};
 ghost use Rattle.model.specs.Task.{written};
 ghost use Rattle.moves.specs.Lists.{literals_of};
 ghost use Rattle.task.specs.Views.{task_of};
-ghost use Rattle.coupling.specs.Rows.{row};
+ghost use Rattle.coupling.specs.Rows.{row, written_by};
 
 use moves::Literals;
 use std::alloc::{AllocError, Global};
@@ -14,17 +15,16 @@ use task::Task;
 
 // Two relations between move numbers. A question changes nothing.
 pub trait Coupling {
-    // a needs b in its step
-    ghost needed: { Self → ℕ → ℕ → Bool };
+    // which moves need which, and which bar which
+    ghost relations: { Self → Relations };
 
-    // a bars b from its step
-    ghost barred: { Self → ℕ → ℕ → Bool };
-
+    // Does `a` need `b` in its step?
     fn needs(&self, a: u8, b: u8) -> bool
-        ensures { result ≡ needed self.now a b };
+        ensures { result ≡ (relations self.now).needs a b };
 
+    // Does `a` bar `b` from its step?
     fn bars(&self, a: u8, b: u8) -> bool
-        ensures { result ≡ barred self.now a b };
+        ensures { result ≡ (relations self.now).bars a b };
 }
 
 // The coupling that a task file writes down: a row of companions for each move. A plain companion is needed, one with
@@ -35,9 +35,7 @@ pub struct Written {
 }
 
 impl Coupling for Written {
-    ghost needed = { λ w a. row w a true };
-
-    ghost barred = { λ w a. row w a false };
+    ghost relations = { written_by };
 
     fn needs(&self, a: u8, b: u8) -> bool {
         self.companions(a).plain.contains(b)
@@ -52,21 +50,17 @@ impl Written {
     fn companions(&self, a: u8) -> Literals
         ensures { literals_of result ≡ row self.now a }
     {
-        match self.rows.get(a as usize) {
-            Some(found) => *found,
-            None => Literals::empty(),
-        }
+        self.rows
+            .get(usize::from(a))
+            .copied()
+            .unwrap_or(Literals::empty())
     }
 
     // The coupling of a task.
     pub fn new(heap: Global, task: &Task) -> Result<Written, AllocError>
-        ensures needs { IfOk result (λ w. (λ a. row w a true) ≡ (written (task_of task.now)).needs) }
-        ensures bars { IfOk result (λ w. (λ a. row w a false) ≡ (written (task_of task.now)).bars) }
+        ensures { IfOk result (λ w. written_by w ≡ written (task_of task.now)) }
     {
-        let mut rows = Vec::new(heap);
-        for a in 0..task.moves() {
-            rows.push(task.companions(a))?;
-        }
+        let rows = (0..task.moves()).map(|a| task.companions(a)).collect(heap)?;
         Ok(Written { rows })
     }
 }

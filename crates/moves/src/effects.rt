@@ -6,8 +6,7 @@ ghost use Rattle.moves.specs.Lists.{literals_of};
 ghost use Rattle.moves.specs.Parts.{effect_of, move_of, Extends};
 
 use crate::lists::Literals;
-use crate::parts::{Effect, Move};
-use sets::IndexSet;
+use crate::parts::{Context, Effect, Move};
 use std::alloc::AllocFailed;
 
 impl Effect {
@@ -22,11 +21,11 @@ impl Effect {
         }
     }
 
-    // Is it triggered in a step with these moves, with `line` before it?
-    pub fn triggered(self, line: IndexSet, moves: IndexSet) -> bool
-        ensures { result ≡ is_triggered (effect_of self) (members line) (members moves) }
+    // Is it triggered?
+    pub fn triggered(self, context: Context) -> bool
+        ensures { result ≡ is_triggered (effect_of self) (members context.line) (members context.moves) }
     {
-        self.conditions.hold(line) && self.alongside.hold(moves)
+        self.conditions.hold(context.line) && self.alongside.hold(context.moves)
     }
 }
 
@@ -40,12 +39,12 @@ impl Move {
     }
 
     // The results of its triggered effects.
-    pub fn results(&self, line: IndexSet, moves: IndexSet) -> Literals
-        ensures { literals_of result ≡ all_results (move_of self.now).effects (members line) (members moves) }
+    pub fn results(&self, context: Context) -> Literals
+        ensures { literals_of result ≡ all_results (move_of self.now).effects (members context.line) (members context.moves) }
     {
         let mut all = Literals::empty();
         for effect in &self.effects {
-            if effect.triggered(line, moves) {
+            if effect.triggered(context) {
                 all = all.union(effect.results);
             }
         }

@@ -8,4 +8,4 @@ mod lists;
 mod parts;
 
 pub use lists::{Literal, Literals, with_number};
-pub use parts::{Effect, Move};
+pub use parts::{Context, Effect, Move};

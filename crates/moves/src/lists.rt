@@ -1,37 +1,50 @@
 // Literals, one by one and in lists.
 ghost use Rattle.std.specs.Prelude.{◌≡◌, ◌≤◌};
-ghost use Rattle.model.specs.Sets.{no_literals, both, holds};
+ghost use Rattle.model.specs.Sets.{no_literals, both, holds, names as is_named};
 ghost use Rattle.sets.specs.Members.{members};
 ghost use Rattle.refusals.specs.Answers.{seen};
-ghost use Rattle.moves.specs.Lists.{literals_of, literal as read_literal, added, numbered};
+ghost use Rattle.moves.specs.Lists.{literals_of, literal as read_literal, asked, added, numbered};
 
 use refusals::{Question, Refusal};
 use sets::IndexSet;
 
 // A fluent or a move, or "not" it.
-#[derive(Clone, Copy)]
+#[derive(Clone, Copy, PartialEq, Eq, Debug)]
 pub struct Literal {
     pub number: u8,
     pub plain: bool,
 }
 
 // The literals of one list: which numbers stand in it plain, and which with "not".
-#[derive(Clone, Copy)]
+#[derive(Clone, Copy, PartialEq, Eq, Debug)]
 pub struct Literals {
     pub plain: IndexSet,
     pub negated: IndexSet,
 }
 
-impl Literal {
-    // The number is in the low seven bits; a set high bit says "not".
-    pub fn from_byte(b: u8) -> Literal
-        ensures { result ≡ read_literal b }
-    {
+// The number is in the low seven bits; a set high bit says "not".
+impl From<u8> for Literal {
+    ghost from_gives = { λ b r. r ≡ read_literal b };
+
+    fn from(b: u8) -> Literal {
         Literal {
             number: b % 128,
             plain: b < 128,
         }
     }
+}
+
+// The questions of a list: is a number below `bound`, and is it not there yet?
+fn ask(k: u8, bound: u8, is_there: bool, place: usize) -> Result<(), Refusal>
+    ensures { result ≡ asked k bound is_there place }
+{
+    if k >= bound {
+        return Err(Question::Range.at(place));
+    }
+    if is_there {
+        return Err(Question::New.at(place));
+    }
+    Ok(())
 }
 
 impl Literals {
@@ -51,23 +64,25 @@ impl Literals {
         ensures { seen literals_of result ≡ added (literals_of self) literal bound place }
     {
         let k = literal.number;
-        if k >= bound {
-            return Err(Question::Range.at(place));
-        }
-        if self.plain.contains(k) || self.negated.contains(k) {
-            return Err(Question::New.at(place));
-        }
-        if literal.plain {
-            Ok(Literals {
+        ask(k, bound, self.names(k), place)?;
+        Ok(if literal.plain {
+            Literals {
                 plain: self.plain.insert(k),
-                negated: self.negated,
-            })
+                ..self
+            }
         } else {
-            Ok(Literals {
-                plain: self.plain,
+            Literals {
                 negated: self.negated.insert(k),
-            })
-        }
+                ..self
+            }
+        })
+    }
+
+    // Does the number stand in the list, plain or with "not"?
+    fn names(self, k: u8) -> bool
+        ensures { result ≡ is_named (literals_of self) k }
+    {
+        self.plain.contains(k) || self.negated.contains(k)
     }
 
     pub fn union(self, other: Literals) -> Literals
@@ -92,11 +107,6 @@ pub fn with_number(set: IndexSet, k: u8, bound: u8, place: usize) -> Result<Inde
     requires { bound ≤ 128 }
     ensures { seen members result ≡ numbered (members set) k bound place }
 {
-    if k >= bound {
-        return Err(Question::Range.at(place));
-    }
-    if set.contains(k) {
-        return Err(Question::New.at(place));
-    }
+    ask(k, bound, set.contains(k), place)?;
     Ok(set.insert(k))
 }

@@ -1,22 +1,13 @@
--- The operands of a step, looked through one at a time. Assumes nothing.
-use Rattle.std.proofs.Common.{◌≡◌, ℕ, ◌+◌, ◌<◌, ◌≤◌, Bool, true, false, ◌&&◌, ◌||◌, eqb, ltb, List, length, get_or, drop, sym, ap, ◌∙◌, add-one, drop-cons}
-use Rattle.std.proofs.lemmas.List.{drop_all}
+-- The questions of a step's operands, asked of all of them in turn. Assumes nothing.
+use Rattle.std.proofs.Common.{◌≡◌, ℕ, ◌+◌, ◌&&◌, ◌||◌, eqb, ltb, List, [], ◌∷◌, refl, ap}
+use Rattle.std.specs.List.{list_all, enumerate_from}
 use Rattle.model.specs.Line.{Line}
 use Rattle.plan.specs.Form.{ranged, own, placed}
 
-pub ranged_at : (m : ℕ) (bs : List ℕ) (i : ℕ) → i < length bs
-    → ranged m (drop i bs) ≡ ((eqb (get_or bs i 0) 255 || ltb (get_or bs i 0) m) && ranged m (drop (i + 1) bs))
-ranged_at m bs i h = rw (add-one i, drop-cons bs i 0)
+pub ranged_all : (m : ℕ) (bs : List ℕ) → list_all (λ b. eqb b 255 || ltb b m) bs ≡ ranged m bs
+ranged_all m [] = refl
+ranged_all m (b ∷ bs) = ap (λ x. (eqb b 255 || ltb b m) && x) (ranged_all m bs)
 
-placed_at : (L : Line) (bs : List ℕ) (i : ℕ) → i < length bs → placed L i (drop i bs) ≡ (own L i (get_or bs i 0) && placed L (i + 1) (drop (i + 1) bs))
-placed_at L bs i h = rw (drop-cons bs i 0, add-one i)
-
-module _ (L : Line) (bs : List ℕ) (i : ℕ) (whole : Bool) (inv : placed L i (drop i bs) ≡ whole) where
-  pub placed_more : i < length bs → true ≡ own L i (get_or bs i 0) → placed L (i + 1) (drop (i + 1) bs) ≡ whole
-  placed_more h t = ap (λ x. x && placed L (i + 1) (drop (i + 1) bs)) t ∙ sym (placed_at L bs i h) ∙ inv
-
-  pub placed_fails : i < length bs → false ≡ own L i (get_or bs i 0) → false ≡ whole
-  placed_fails h t = ap (λ x. x && placed L (i + 1) (drop (i + 1) bs)) t ∙ sym (placed_at L bs i h) ∙ inv
-
-  pub placed_all : length bs ≤ i → true ≡ whole
-  placed_all end = rw (drop_all i bs end) at inv
+pub placed_all : (L : Line) (i : ℕ) (bs : List ℕ) → list_all (λ p. own L p.0 p.1) (enumerate_from i bs) ≡ placed L i bs
+placed_all L i [] = refl
+placed_all L i (b ∷ bs) = ap (λ x. own L i b && x) (placed_all L (i + 1) bs)

@@ -6,7 +6,7 @@ ghost use Rattle.plan.specs.Commands.{first, taken};
 use refusals::{Question, Refusal};
 
 // STEP keeps its sixteen operand bytes as a part of the plan file.
-#[derive(Clone, Copy)]
+#[derive(Clone, Copy, PartialEq, Eq, Debug)]
 pub enum JointCommand<'a> {
     Step(&'a [u8; 16]),
 }
@@ -17,11 +17,10 @@ pub fn next<'a>(rest: &'a [u8], place: usize) -> Result<(JointCommand<'a>, &'a [
     ensures asked { Asked place result }
     ensures shorter { IfOk result (λ p. length p.1.now < length rest.now) }
 {
-    match rest {
-        [0x31, tail @ ..] => match tail.split_first_chunk::<16>() {
-            Some((operands, after)) => Ok((JointCommand::Step(operands), after)),
-            None => Err(Question::Command.at(place)),
-        },
-        _ => Err(Question::Command.at(place)),
-    }
+    let refused = Question::Command.at(place);
+    let [0x31, tail @ ..] = rest else {
+        return Err(refused);
+    };
+    let (operands, after) = tail.split_first_chunk::<16>().ok_or(refused)?;
+    Ok((JointCommand::Step(operands), after))
 }

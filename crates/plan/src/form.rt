@@ -9,50 +9,38 @@ ghost use Rattle.plan.specs.Form.{ranged, own, placed, formed, joint_form, Reads
 use crate::command::{JointCommand, next};
 use refusals::{Fault, Question, Refusal};
 use std::alloc::Global;
-use step::Step;
+use step::{Step, named};
 use task::Task;
 
 // The most bytes that a joint plan may have: 256 steps.
 pub const LIMIT: usize = 4352;
 
-// The operand of a station without a move.
-const NONE: u8 = 0xff;
-
 // Is every operand none, or the number of a move?
 fn in_range(moves: u8, operands: &[u8]) -> bool
     ensures { result ≡ ranged moves operands.now }
 {
-    for b in operands {
-        if *b != NONE && *b >= moves {
-            return false;
-        }
-    }
-    true
+    operands
+        .iter()
+        .all(|operand| named(*operand).is_none_or(|a| a < moves))
 }
 
 // Is the operand none, or a move of this station?
-fn is_own(task: &Task, station: usize, b: u8) -> bool
-    ensures { result ≡ own (line_of task.now) station b }
+fn is_own(task: &Task, station: usize, operand: u8) -> bool
+    ensures { result ≡ own (line_of task.now) station operand }
 {
-    if b == NONE {
-        return true;
-    }
-    match task.station(b) {
-        Some(found) => found as usize == station,
-        None => false,
-    }
+    named(operand).is_none_or(|a| task
+        .station(a)
+        .is_some_and(|found| usize::from(found) == station))
 }
 
 // Is every operand none, or a move of the station that it stands for?
 fn in_place(task: &Task, operands: &[u8]) -> bool
     ensures { result ≡ placed (line_of task.now) 0 operands.now }
 {
-    for (i, b) in operands.iter().enumerate() {
-        if !is_own(task, i, *b) {
-            return false;
-        }
-    }
-    true
+    operands
+        .iter()
+        .enumerate()
+        .all(|(station, operand)| is_own(task, station, *operand))
 }
 
 // The step of a STEP command, after the questions of its form.
@@ -74,7 +62,7 @@ pub fn read_joint(heap: Global, task: &Task, file: &[u8]) -> Result<Vec<Step>, F
     ensures { Reads (joint_form (line_of task.now) file.now) result }
 {
     if file.len() > LIMIT {
-        return Err(Fault::Refused(Question::Limit.at(0)));
+        return Err(Question::Limit.at(0).into());
     }
     let mut steps = Vec::new(heap);
     let mut rest = file;

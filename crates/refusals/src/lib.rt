@@ -8,34 +8,36 @@ ghost use Rattle.refusals.specs.Numbers.{number_of, layer_of, question};
 ghost use Rattle.refusals.specs.declared.Fault.TheVariants.{Refused, Memory};
 
 use std::alloc::{AllocError, AllocFailed as Unplaced};
+use std::error::Error;
+use std::fmt;
 
-// The questions that calls put, each named by what it asks for. specs/Numbers.antt has their numbers.
+// The questions that calls put, each named by what it asks for, with its number.
 #[derive(Clone, Copy, PartialEq, Eq, Debug)]
 pub enum Question {
     // Is the file within its limit?
-    Limit,
+    Limit = 1,
     // Does a known command with all its operands stand here?
-    Command,
+    Command = 2,
     // Is the command in its order?
-    Order,
+    Order = 3,
     // Is every operand in range?
-    Range,
+    Range = 4,
     // Is the fluent or move new in its list?
-    New,
+    New = 5,
     // Is it at most the move's eighth effect?
-    Effects,
+    Effects = 6,
     // Is the move that station's?
-    Station,
+    Station = 7,
     // Do the needs of every move hold?
-    Needs,
+    Needs = 12,
     // Is every needed move in the step?
-    Present,
+    Present = 13,
     // Is every barred move absent from the step?
-    Absent,
+    Absent = 14,
     // Do the results of the triggered effects agree?
-    Agree,
+    Agree = 15,
     // Is the goal met at the end?
-    Goal,
+    Goal = 16,
 }
 
 // What a question is about: the bytes of a file, or what the line does.
@@ -43,6 +45,15 @@ pub enum Question {
 pub enum Layer {
     Form,
     Run,
+}
+
+impl fmt::Display for Layer {
+    fn fmt<W: fmt::Write>(&self, f: &mut fmt::Formatter<W>) -> fmt::Result {
+        f.write_str(match self {
+            Layer::Form => "form",
+            Layer::Run => "run",
+        })
+    }
 }
 
 impl Question {
@@ -61,20 +72,7 @@ impl Question {
         ensures value { result ≡ number_of self }
         ensures known { question result ≡ self }
     {
-        match self {
-            Question::Limit => 1,
-            Question::Command => 2,
-            Question::Order => 3,
-            Question::Range => 4,
-            Question::New => 5,
-            Question::Effects => 6,
-            Question::Station => 7,
-            Question::Needs => 12,
-            Question::Present => 13,
-            Question::Absent => 14,
-            Question::Agree => 15,
-            Question::Goal => 16,
-        }
+        self as u8
     }
 
     pub fn layer(self) -> Layer
@@ -104,6 +102,17 @@ pub struct Refusal {
     pub question: Question,
     pub place: usize,
 }
+
+// In short: "refused 12 run 1".
+impl fmt::Display for Refusal {
+    fn fmt<W: fmt::Write>(&self, f: &mut fmt::Formatter<W>) -> fmt::Result {
+        let number = self.question.number();
+        let layer = self.question.layer();
+        write!(f, "refused {number} {layer} {}", self.place)
+    }
+}
+
+impl Error for Refusal {}
 
 // Why a call that may need memory gives no result.
 #[derive(Clone, Copy, PartialEq, Eq, Debug)]

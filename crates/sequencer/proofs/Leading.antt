@@ -1,31 +1,18 @@
--- What a step answers is what it leads to in the joint world; steps are judged as their operands are. Assumes nothing.
-use Rattle.std.proofs.Common.{◌≡◌, ℕ, zero, suc, List, [], ◌∷◌, map, length, take, drop, Ok, Err, Result, sym, refl, ap, ◌∙◌, subst, ap₂, inl, inr}
+-- Steps are judged as their operands are, and a call with files as one with what they hold. Assumes nothing.
+use Rattle.std.proofs.Common.{◌≡◌, ℕ, zero, suc, List, [], ◌∷◌, map, length, take, drop, Ok, Err, Result, sym, refl, ap, ◌∙◌, subst, inl, inr}
 use lib.ListN.{length-map}
 use Rattle.refusals.specs.declared.Question.{Question}
 use Rattle.refusals.specs.declared.Refusal.{Refusal}
 use Rattle.refusals.specs.declared.Fault.{Fault}
 use Rattle.refusals.specs.declared.Fault.TheVariants.{Refused, Memory}
 use Rattle.refusals.specs.Answers.{Within}
-use Rattle.refusals.proofs.Distinct.{question_number}
-use Rattle.model.specs.Sets.{Set}
-use Rattle.model.specs.Line.{Line, Coupling}
-use Rattle.model.specs.Joint.{after}
-use Rattle.sets.specs.Members.{members}
-use Rattle.sets.specs.declared.IndexSet.{IndexSet}
-use Rattle.step.specs.Outcome.{Performed}
+use Rattle.model.specs.Line.{Coupling}
 use Rattle.world.specs.Plans.{Leads, Solves, Fails, Judged}
 use Rattle.world.proofs.Walks.{judged_ok, judged_err}
 use Rattle.model.specs.Task as model
 use Rattle.task.specs.Views.{task_of, line_of, Reads}
 use Rattle.task.specs.declared.task.Task.{Task}
-use Rattle.sequencer.specs.Joint.{answered, joint_leads, Verdict, Filed, WithTask}
-
-module _ (L : Line) (K : Coupling) (s S S' : Set) (same : S ≡ S') where
-  pub leads_on : (t : IndexSet) → Performed L K s S (Ok t) → joint_leads L K s S' ≡ Ok (members t)
-  leads_on t p = subst (λ (x : Set). joint_leads L K s x ≡ Ok (members t)) same (ap₂ answered p.0 (sym p.1))
-
-  pub leads_off : (q : Question) → Performed L K s S (Err q) → joint_leads L K s S' ≡ Err q
-  leads_off q p = subst (λ (x : Set). joint_leads L K s x ≡ Err q) same (ap (λ o. answered o (after L s S)) p ∙ ap Err (question_number q))
+use Rattle.sequencer.specs.Joint.{Verdict, Filed, WithTask}
 
 -- a plan judged by what its steps stand for
 module _ {S A B : Type 0} (next : S → B → Result S Question) (f : A → B) where

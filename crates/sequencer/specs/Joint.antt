@@ -1,36 +1,18 @@
--- The joint world by the model, and the verdict on a joint plan file. Assumes nothing.
-use Rattle.std.specs.Prelude.{◌≡◌, ℕ, cond, ◌⊎◌, List, length, Ok, Err, Result}
-use Rattle.std.proofs.Math.Option.{Option, none, some}
-use Rattle.refusals.specs.declared.Question.{Question}
-use Rattle.refusals.specs.declared.Question.TheVariants.{Goal}
+-- The verdict on a joint plan file. Assumes nothing.
+use Rattle.std.specs.Prelude.{◌≡◌, ℕ, ◌⊎◌, List, length, Ok, Err, Result}
 use Rattle.refusals.specs.declared.Refusal.{Refusal}
 use Rattle.refusals.specs.declared.Fault.{Fault}
 use Rattle.refusals.specs.declared.Fault.TheVariants.{Refused, Memory}
-use Rattle.refusals.specs.Numbers.{question}
-use Rattle.model.specs.Sets.{Set}
 use Rattle.model.specs.Line.{Line, Coupling}
-use Rattle.model.specs.Joint.{refused, after}
 use Rattle.refusals.specs.Answers.{Within}
 use Rattle.model.specs.Task as model
 use Rattle.task_form.specs.Form.{form}
 use Rattle.task.specs.Views.{line_of}
 use Rattle.task.specs.declared.task.Task.{Task}
 use Rattle.step.specs.Operands.{named}
+use Rattle.step.specs.Joint.{joint_leads, joint_ends}
 use Rattle.world.specs.Plans.{Judged}
 use Rattle.plan.specs.Form.{joint_form}
-
--- the fluents t, unless a question is answered no
-abbrev pub answered : Option ℕ → Set → Result Set Question
-answered none t = Ok t
-answered (some n) t = Err (question n)
-
--- the step S leads from s to the fluents after it, where it is allowed
-abbrev pub joint_leads : Line → Coupling → Set → Set → Result Set Question
-joint_leads L K s S = answered (refused L K s S) (after L s S)
-
--- at the end the goal holds
-abbrev pub joint_ends : Line → Set → Result (Unit {0}) Question
-joint_ends L s = cond (L.goal s) (Ok tt) (Err Goal)
 
 -- the judgement on steps that are written as their operands
 abbrev pub JudgedRows : Line → Coupling → List (List ℕ) → Result (Unit {0}) Refusal → Type 0

@@ -4,4 +4,5 @@
 
 mod joint;
 
-pub use joint::{Joint, judge_joint, judge_joint_plan, judge_steps};
+pub use joint::{judge_joint, judge_joint_plan, judge_steps};
+pub use step::Joint;

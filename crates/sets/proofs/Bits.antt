@@ -6,7 +6,7 @@ use lib.Arith.{bin_ind}
 use lib.Pow.{ones_split, ones_lt}
 use lib.Bits.{bit_and, bit_or, bit_xor, and_shr, or_shr, xor_shr, and_step, or_step, xor_step}
 use Rattle.std.proofs.lemmas.Nat.{shr-shr, pow_pos, pow-add, pow_below, shl-shr, shr_high, one_shl}
-use Rattle.std.proofs.lemmas.Bool.{cases_order, cases_lt, eqb-true, eq-eqb, lt-ltb, ltb-true}
+use Rattle.std.proofs.lemmas.Bool.{cases_order, cases_lt, eqb-true, eq-eqb, lt-ltb}
 use Rattle.std.proofs.lemmas.Bool.Decides.{nat_tests, same_from_decides, Decides-like, Decides-below_and}
 use Rattle.sets.specs.Members.{bit, inside}
 use Rattle.model.specs.Sets.{Set, none, any, all, meet, with, either, minus, below, subset, apart}
@@ -176,20 +176,28 @@ bit_ones n k =
     grind (arith, nat_tests))
     (cases_lt k n)
 
-pub inside_ones : (n : ℕ) → n ≤ 128 → inside (bit (2 ^ n - 1)) ≡ below n
-inside_ones n h = fun_ext (λ k. rw (bit_ones n k) (grind (arith, nat_tests)))
+pub inside_ones : (n : ℕ) → inside (bit (2 ^ n - 1)) ≡ inside (below n)
+inside_ones n = ap inside (fun_ext (bit_ones n))
 
-pub bits_below : (n : ℕ) → n < 128 → inside (bit ((1 * 2 ^ n % 2 ^ 128) - 1)) ≡ below n
-bits_below n h = rw (one_shl n 128 h) (inside_ones n (omega arith))
+pub bits_below : (n : ℕ) → n < 128 → inside (bit ((1 * 2 ^ n % 2 ^ 128) - 1)) ≡ inside (below n)
+bits_below n h = rw (one_shl n 128 h) (inside_ones n)
+
+-- from 128 on a set holds all that it can hold
+pub bits_all : (n : ℕ) → 128 ≤ n → inside (bit (2 ^ 128 - 1)) ≡ inside (below n)
+bits_all n h = inside_ones 128 ∙ fun_ext (λ k. grind (arith, nat_tests))
 
 none_any : (n : ℕ) (p : Set) → not (all n (λ k. not (p k))) ≡ any n p
 none_any zero p = refl
 none_any (suc n) p = let ih = none_any n p in grind arith
 
-pub apart_below : (n : ℕ) (p : Set) → n ≤ 128 → not (apart (below n) p) ≡ any n p
-apart_below n p h = ap not tests ∙ none_any n p
+pub apart_below : (n : ℕ) (q : Set) → not (apart (inside (below n)) (inside q)) ≡ any n (inside q)
+apart_below n q = ap not tests ∙ none_any n (inside q)
   where
-    tests : apart (below n) p ≡ all n (λ k. not (p k))
+    tests : apart (inside (below n)) (inside q) ≡ all n (λ k. not (inside q k))
     tests =
-        same_from_decides _ _ (Decides-like _ (λ f k l. f k (omega arith) (lt-ltb k n l)) (λ f k l e. f k (ltb-true k n e)) (decides_apart (below n) p))
-        (Decides-below_and (λ k. not (p k)) (λ k. p k ≡ false) (λ n. all n (λ k. not (p k))) (λ k. grind arith) refl (λ _. refl) n)
+        same_from_decides _ _
+        (Decides-like _
+        (λ f k l. ⊎_elim (λ (s : k < 128). f k s (grind (arith, nat_tests))) (λ (g : 128 ≤ k). grind (arith, nat_tests)) (cases_lt k 128))
+        (λ f k l e. f k (grind (arith, nat_tests)))
+        (decides_apart (inside (below n)) (inside q)))
+        (Decides-below_and (λ k. not (inside q k)) (λ k. inside q k ≡ false) (λ n. all n (λ k. not (inside q k))) (λ k. grind arith) refl (λ _. refl) n)

@@ -1,13 +1,13 @@
 // Sets of small numbers: fluents, moves or stations.
 // Knows that a set is kept as the bits of one number, which no other crate sees: contracts speak of members.
-// Inner to the workspace: `below`, `insert` and `any_below` presume numbers that fit, and every caller is proved.
+// Inner to the workspace: `insert` presumes a number that fits, and every caller is proved.
 #![tactic(auto)]
 
-ghost use Rattle.std.specs.Prelude.{◌≡◌, ◌<◌, ◌≤◌};
+ghost use Rattle.std.specs.Prelude.{◌≡◌, ◌<◌};
 ghost use Rattle.model.specs.Sets.{none, with, either, meet, minus, below as under, subset, apart, any};
 ghost use Rattle.sets.specs.Members.{members};
 
-#[derive(Clone, Copy)]
+#[derive(Clone, Copy, PartialEq, Eq, Debug)]
 pub struct IndexSet {
     bits: u128,
 }
@@ -19,10 +19,9 @@ impl IndexSet {
         IndexSet { bits: 0 }
     }
 
-    // The numbers below `n`.
+    // The numbers below `n`, as far as a set can hold them.
     pub fn below(n: u8) -> IndexSet
-        requires { n ≤ 128 }
-        ensures { members result ≡ under n }
+        ensures { members result ≡ meet (under 128) (under n) }
     {
         if n < 128 {
             IndexSet { bits: (1 << n) - 1 }
@@ -86,7 +85,6 @@ impl IndexSet {
 
     // Is some number below `n` a member?
     pub fn any_below(self, n: u8) -> bool
-        requires { n ≤ 128 }
         ensures { result ≡ any n (members self) }
     {
         !IndexSet::below(n).disjoint(self)

@@ -1,3 +1,4 @@
+pub mod Joint
 pub mod Operands
 pub mod Outcome
 pub mod Views

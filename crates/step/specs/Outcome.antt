@@ -1,5 +1,5 @@
 -- What a step answers, and what it leaves. Assumes nothing.
-use Rattle.std.specs.Prelude.{◌≡◌, ℕ, Bool, Ok, Err, Result}
+use Rattle.std.specs.Prelude.{◌≡◌, Ok, Err, Result}
 use Rattle.std.proofs.Math.Option.{none, some}
 use Rattle.refusals.specs.declared.Question.{Question}
 use Rattle.refusals.specs.Numbers.{number_of}
@@ -8,10 +8,6 @@ use Rattle.model.specs.Line.{Line, Coupling}
 use Rattle.model.specs.Joint.{refused, after}
 use Rattle.sets.specs.Members.{members}
 use Rattle.sets.specs.declared.IndexSet.{IndexSet}
-
--- the coupling with these two relations
-abbrev pub coupled_by : (needs bars : ℕ → ℕ → Bool) → Coupling
-coupled_by n b = record { needs = n; bars = b }
 
 -- allowed, the step leaves the fluents after it; otherwise the first question answered no is told
 abbrev pub Performed : Line → Coupling → (s S : Set) → Result IndexSet Question → Type 0

@@ -1,101 +1,94 @@
-// A whole step: its questions in their order, and the fluents after it.
+// A task under a coupling: the questions of a whole step in their order, and the fluents after it.
 ghost use Rattle.std.specs.Prelude.{◌≡◌};
-ghost use Rattle.model.specs.Joint.{made as is_made, unmade as is_unmade, unready as is_unready, lacking as is_lacking, clashing as is_clashing};
+ghost use Rattle.model.specs.Joint.{missing as is_missing, barred as is_barred, made as is_made, unmade as is_unmade, unready as is_unready, lacking as is_lacking, clashing as is_clashing};
 ghost use Rattle.sets.specs.Members.{members};
 ghost use Rattle.task.specs.Views.{line_of};
-ghost use Rattle.step.specs.Outcome.{coupled_by, Performed};
+ghost use Rattle.step.specs.Outcome.{Performed};
 
-use crate::coupled::{clashes, lacks};
 use coupling::Coupling;
+use moves::{Context, Literals};
 use refusals::Question;
 use sets::IndexSet;
 use task::Task;
 
-// The fluents that a step makes true, and those that it makes false.
-#[derive(Clone, Copy)]
-pub struct Changes {
-    pub made: IndexSet,
-    pub unmade: IndexSet,
+// What whole steps are asked of, both lent.
+#[derive(Drop)]
+pub struct Joint<'t, 'c, C> {
+    pub task: &'t Task,
+    pub coupling: &'c C,
 }
 
-// Do the needs of some move of the step not hold?
-pub fn some_unready(task: &Task, line: IndexSet, moves: IndexSet) -> bool
-    ensures { result ≡ is_unready (line_of task.now) (members line) (members moves) }
-{
-    for a in 0..task.moves() {
-        if moves.contains(a) && !task.ready(a, line) {
-            return true;
-        }
-    }
-    false
-}
-
-// Does some move of the step need one that is not in it?
-pub fn some_lack<C: Coupling>(task: &Task, coupling: &C, moves: IndexSet) -> bool
-    ensures { result ≡ is_lacking (line_of task.now) (coupled_by (C.needed coupling.now) (C.barred coupling.now)) (members moves) }
-{
-    for a in 0..task.moves() {
-        if moves.contains(a) && lacks(task, coupling, moves, a) {
-            return true;
-        }
-    }
-    false
-}
-
-// Does some move of the step bar one that is in it?
-pub fn some_clash<C: Coupling>(task: &Task, coupling: &C, moves: IndexSet) -> bool
-    ensures { result ≡ is_clashing (line_of task.now) (coupled_by (C.needed coupling.now) (C.barred coupling.now)) (members moves) }
-{
-    for a in 0..task.moves() {
-        if moves.contains(a) && clashes(task, coupling, moves, a) {
-            return true;
-        }
-    }
-    false
-}
-
-// What the triggered effects of the step's moves make true and false together.
-pub fn joint_changes(task: &Task, line: IndexSet, moves: IndexSet) -> Changes
-    ensures made { members result.made ≡ is_made (line_of task.now) (members line) (members moves) }
-    ensures unmade { members result.unmade ≡ is_unmade (line_of task.now) (members line) (members moves) }
-{
-    let mut made = IndexSet::empty();
-    let mut unmade = IndexSet::empty();
-    for a in 0..task.moves() {
-        if moves.contains(a) {
-            let results = task.results(a, line, moves);
-            made = made.union(results.plain);
-            unmade = unmade.union(results.negated);
-        }
-    }
-    Changes { made, unmade }
-}
-
-// The fluents after the step with these moves from `line`, or the first question answered no.
-pub fn step_from<C: Coupling>(
-    task: &Task,
-    coupling: &C,
-    line: IndexSet,
-    moves: IndexSet,
-) -> Result<IndexSet, Question>
-    ensures { Performed (line_of task.now) (coupled_by (C.needed coupling.now) (C.barred coupling.now)) (members line) (members moves) result }
-{
-    if some_unready(task, line, moves) {
-        return Err(Question::Needs);
-    }
-    if some_lack(task, coupling, moves) {
-        return Err(Question::Present);
-    }
-    if some_clash(task, coupling, moves) {
-        return Err(Question::Absent);
-    }
-    let changes = joint_changes(task, line, moves);
-    if changes
-        .made
-        .intersection(changes.unmade)
-        .any_below(task.fluents())
+impl<'t, 'c, C: Coupling> Joint<'t, 'c, C> {
+    // Is some move that `a` needs not among `moves`?
+    pub fn lacks(&self, moves: IndexSet, a: u8) -> bool
+        ensures { result ≡ is_missing (line_of self.now.task.now) (C.relations self.now.coupling.now) (members moves) a }
     {
-        return Err(Question::Agree);
+        (0..self.task.moves()).any(|b| self.coupling.needs(a, b) && !moves.contains(b))
     }
-    Ok(line.difference(changes.unmade).union(changes.made))
+
+    // Is some move that `a` bars among `moves`?
+    pub fn clashes(&self, moves: IndexSet, a: u8) -> bool
+        ensures { result ≡ is_barred (line_of self.now.task.now) (C.relations self.now.coupling.now) (members moves) a }
+    {
+        (0..self.task.moves()).any(|b| self.coupling.bars(a, b) && moves.contains(b))
+    }
+
+    // Do the needs of some move of the step not hold?
+    pub fn some_unready(&self, context: Context) -> bool
+        ensures { result ≡ is_unready (line_of self.now.task.now) (members context.line) (members context.moves) }
+    {
+        (0..self.task.moves()).any(|a| context.moves.contains(a)
+            && !self.task.ready(a, context.line))
+    }
+
+    // Does some move of the step need one that is not in it?
+    pub fn some_lack(&self, moves: IndexSet) -> bool
+        ensures { result ≡ is_lacking (line_of self.now.task.now) (C.relations self.now.coupling.now) (members moves) }
+    {
+        (0..self.task.moves()).any(|a| moves.contains(a) && self.lacks(moves, a))
+    }
+
+    // Does some move of the step bar one that is in it?
+    pub fn some_clash(&self, moves: IndexSet) -> bool
+        ensures { result ≡ is_clashing (line_of self.now.task.now) (C.relations self.now.coupling.now) (members moves) }
+    {
+        (0..self.task.moves()).any(|a| moves.contains(a) && self.clashes(moves, a))
+    }
+
+    // What the triggered effects of the step's moves make true and false together.
+    pub fn joint_changes(&self, context: Context) -> Literals
+        ensures made { members result.plain ≡ is_made (line_of self.now.task.now) (members context.line) (members context.moves) }
+        ensures unmade { members result.negated ≡ is_unmade (line_of self.now.task.now) (members context.line) (members context.moves) }
+    {
+        let mut changes = Literals::empty();
+        for a in 0..self.task.moves() {
+            if context.moves.contains(a) {
+                changes = changes.union(self.task.results(a, context));
+            }
+        }
+        changes
+    }
+
+    // The fluents after the step, or the first question answered no.
+    pub fn step_from(&self, context: Context) -> Result<IndexSet, Question>
+        ensures { Performed (line_of self.now.task.now) (C.relations self.now.coupling.now) (members context.line) (members context.moves) result }
+    {
+        if self.some_unready(context) {
+            return Err(Question::Needs);
+        }
+        if self.some_lack(context.moves) {
+            return Err(Question::Present);
+        }
+        if self.some_clash(context.moves) {
+            return Err(Question::Absent);
+        }
+        let Literals {
+            plain: made,
+            negated: unmade,
+        } = self.joint_changes(context);
+        if made.intersection(unmade).any_below(self.task.fluents()) {
+            return Err(Question::Agree);
+        }
+        Ok(context.line.difference(unmade).union(made))
+    }
 }

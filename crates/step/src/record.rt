@@ -1,7 +1,7 @@
 // The record of a step: one operand a station.
 ghost use Rattle.std.specs.Prelude.{◌≡◌};
 ghost use Rattle.sets.specs.Members.{members};
-ghost use Rattle.step.specs.Operands.{operand};
+ghost use Rattle.step.specs.Operands.{move_named, operand};
 ghost use Rattle.step.specs.Views.{operands_of, moves_of};
 
 use sets::IndexSet;
@@ -9,8 +9,15 @@ use sets::IndexSet;
 // The operand of a station without a move.
 const NONE: u8 = 0xff;
 
+// The move that an operand names, if it names one.
+pub fn named(operand: u8) -> Option<u8>
+    ensures { result ≡ move_named operand }
+{
+    (operand != NONE).then_some(operand)
+}
+
 // Sixteen operands, one a station: its move, or 255 for none.
-#[derive(Clone, Copy)]
+#[derive(Clone, Copy, PartialEq, Eq, Debug)]
 pub struct Step {
     operands: [u8; 16],
 }
@@ -28,13 +35,9 @@ impl Step {
     pub fn move_of(&self, station: u8) -> Option<u8>
         ensures { result ≡ operand (operands_of self.now) station }
     {
-        if station >= 16 {
-            return None;
-        }
-        match self.operands[station as usize] {
-            NONE => None,
-            a => Some(a),
-        }
+        self.operands
+            .get(usize::from(station))
+            .and_then(|operand| named(*operand))
     }
 
     // The moves that the operands name.

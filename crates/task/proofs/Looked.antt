@@ -37,3 +37,10 @@ found_move ms vs a (Some x) e item =
     let l = ap length e in
     let low : a < length vs = item.3.0 in
     (omega arith, move_read vs a x.now low item.1 ∙ ap (λ (ys : List Move). move_at (map move_of ys) a) e)
+
+-- what a call v says of the move that is looked up, or of no move, it says of the move of the line
+module _ {X R : Type 0} (f : model.Move → X) (see : R → X) (ms : List model.Move) (a : ℕ) (v d : R) where
+  pub looked : (o : Option (Bor Move)) (post : Bor Move → Type 0) → MatchOption o (length ms ≤ a) (λ m. (a < length ms) × (move_of m.now ≡ move_at ms a))
+      → MatchOption o (v ≡ d) post → see d ≡ f no_move → ((m : Bor Move) → post m → see v ≡ f (move_of m.now)) → see v ≡ f (move_at ms a)
+  looked None post past e default_is one = ap see e ∙ default_is ∙ sym (ap f (move_past ms a past))
+  looked (Some m) post found e default_is one = one m e ∙ ap f found.1

@@ -7,7 +7,7 @@ ghost use Rattle.moves.specs.Parts.{move_of};
 ghost use Rattle.task.specs.Views.{task_of, line_of};
 
 use crate::task::Task;
-use moves::{Literals, Move};
+use moves::{Context, Literals, Move};
 use sets::IndexSet;
 
 impl Task {
@@ -56,47 +56,37 @@ impl Task {
     pub fn get(&self, a: u8) -> Option<&Move>
         ensures { MatchOption result ((line_of self.now).moves ≤ a) (λ m. (a < (line_of self.now).moves) × (move_of m.now ≡ move_at (task_of self.now).moves a)) }
     {
-        self.lists.moves.get(a as usize)
+        self.lists.moves.get(usize::from(a))
     }
 
     // The station of a move, if the task has that move.
     pub fn station(&self, a: u8) -> Option<u8>
         ensures { result ≡ (if nat_lt a (line_of self.now).moves then Some ((line_of self.now).station a) else None) }
     {
-        match self.get(a) {
-            Some(found) => Some(found.station),
-            None => None,
-        }
+        self.get(a).map(|found| found.station)
     }
 
     // Do the needs of a move hold? A number without a move needs nothing.
     pub fn ready(&self, a: u8, line: IndexSet) -> bool
         ensures { result ≡ (line_of self.now).ready a (members line) }
     {
-        match self.get(a) {
-            Some(found) => found.needs.hold(line),
-            None => true,
-        }
+        self.get(a).is_none_or(|found| found.needs.hold(line))
     }
 
     // The companions of a move. A number without a move has none.
     pub fn companions(&self, a: u8) -> Literals
         ensures { literals_of result ≡ (move_at (task_of self.now).moves a).companions }
     {
-        match self.get(a) {
-            Some(found) => found.companions,
-            None => Literals::empty(),
-        }
+        self.get(a)
+            .map_or(Literals::empty(), |found| found.companions)
     }
 
-    // What a move makes true and false beside these moves. A number without a move does nothing.
-    pub fn results(&self, a: u8, line: IndexSet, moves: IndexSet) -> Literals
-        ensures sets { members result.plain ≡ (line_of self.now).sets (members line) (members moves) a }
-        ensures clears { members result.negated ≡ (line_of self.now).clears (members line) (members moves) a }
+    // What a move makes true and false in a step. A number without a move does nothing.
+    pub fn results(&self, a: u8, context: Context) -> Literals
+        ensures sets { members result.plain ≡ (line_of self.now).sets (members context.line) (members context.moves) a }
+        ensures clears { members result.negated ≡ (line_of self.now).clears (members context.line) (members context.moves) a }
     {
-        match self.get(a) {
-            Some(found) => found.results(line, moves),
-            None => Literals::empty(),
-        }
+        self.get(a)
+            .map_or(Literals::empty(), |found| found.results(context))
     }
 }

@@ -7,7 +7,7 @@ use moves::Literal;
 use refusals::{Question, Refusal};
 
 // The commands of a task file, with their operands.
-#[derive(Clone, Copy)]
+#[derive(Clone, Copy, PartialEq, Eq, Debug)]
 pub enum Command {
     Sizes(u8, u8, u8),
     Start(u8),
@@ -23,6 +23,7 @@ pub enum Command {
 }
 
 // `place` is the offset of `rest` in its file.
+#[tactic(auto, using(std::proofs::lemmas::List::take_rest))]
 pub fn next(rest: &[u8], place: usize) -> Result<(Command, &[u8]), Refusal>
     ensures value { taken result ≡ first place rest.now }
     ensures asked { Asked place result }
@@ -31,14 +32,14 @@ pub fn next(rest: &[u8], place: usize) -> Result<(Command, &[u8]), Refusal>
     match rest {
         [0x01, n, f, m, rest @ ..] => Ok((Command::Sizes(*n, *f, *m), rest)),
         [0x02, k, rest @ ..] => Ok((Command::Start(*k), rest)),
-        [0x03, l, rest @ ..] => Ok((Command::Goal(Literal::from_byte(*l)), rest)),
+        [0x03, l, rest @ ..] => Ok((Command::Goal(Literal::from(*l)), rest)),
         [0x04, station, rest @ ..] => Ok((Command::Move(*station), rest)),
-        [0x05, l, rest @ ..] => Ok((Command::Need(Literal::from_byte(*l)), rest)),
-        [0x06, l, rest @ ..] => Ok((Command::With(Literal::from_byte(*l)), rest)),
+        [0x05, l, rest @ ..] => Ok((Command::Need(Literal::from(*l)), rest)),
+        [0x06, l, rest @ ..] => Ok((Command::With(Literal::from(*l)), rest)),
         [0x07, rest @ ..] => Ok((Command::Effect, rest)),
-        [0x08, l, rest @ ..] => Ok((Command::If(Literal::from_byte(*l)), rest)),
-        [0x09, l, rest @ ..] => Ok((Command::IfMove(Literal::from_byte(*l)), rest)),
-        [0x0a, l, rest @ ..] => Ok((Command::Then(Literal::from_byte(*l)), rest)),
+        [0x08, l, rest @ ..] => Ok((Command::If(Literal::from(*l)), rest)),
+        [0x09, l, rest @ ..] => Ok((Command::IfMove(Literal::from(*l)), rest)),
+        [0x0a, l, rest @ ..] => Ok((Command::Then(Literal::from(*l)), rest)),
         [0x0f, rest @ ..] => Ok((Command::End, rest)),
         _ => Err(Question::Command.at(place)),
     }

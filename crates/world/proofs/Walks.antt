@@ -1,9 +1,11 @@
 -- A list of steps leads to one state at most, and has one answer. Assumes nothing.
-use Rattle.std.proofs.Common.{◌≡◌, ℕ, zero, suc, ◌+◌, ◌<◌, ◌≤◌, List, [], ◌∷◌, ◌++◌, length, get_or, take, drop, Ok, Err, Result, sym, refl, ap, ◌∙◌, subst, inl, inr, arith, take_all, drop-cons}
+use Rattle.std.proofs.Common.{◌≡◌, ℕ, Bool, true, false, zero, suc, ◌+◌, ◌<◌, ◌≤◌, List, [], ◌∷◌, ◌++◌, length, get_or, take, drop, Ok, Err, Result, sym, refl, ap, ◌∙◌, subst, inl, inr, arith, take_all, drop-cons}
+use Rattle.std.specs.Result.{MatchResult, is_ok}
 use Rattle.std.proofs.lemmas.List.{take_more}
 use Rattle.refusals.specs.declared.Question.{Question}
 use Rattle.refusals.specs.declared.Refusal.{Refusal}
-use Rattle.world.specs.Plans.{Leads, Stops, Solves, Fails, Judged}
+use Rattle.refusals.specs.Answers.{refusal}
+use Rattle.world.specs.Plans.{Leads, Performs, Stops, Solves, Fails, Judged}
 
 ok_err : {X E : Type 0} (r : Result X E) (x : X) (e : E) → r ≡ Ok x → r ≡ Err e → ⊥
 ok_err r x e p q = let z : ◌≡◌ {A = ℕ} 0 1 = cc in omega arith
@@ -22,9 +24,19 @@ module _ {S A : Type 0} (next : S → A → Result S Question) where
       let pushed : take (i + 1) xs ≡ take i xs ++ (a ∷ []) = take_more xs i a within ∙ ap (λ y. take i xs ++ (y ∷ [])) (sym read) in
       subst (λ ys. Leads next s ys u) (sym pushed) (leads_push s (take i xs) t a u l e)
 
-  pub stops_here : (s : S) (xs : List A) (i : ℕ) (t : S) (a : A) (e : Question) → i < length xs → a ≡ get_or xs i a → Leads next s (take i xs) t → next t a ≡ Err e → Stops next s xs (record { place = i; question = e })
+  stops_here : (s : S) (xs : List A) (i : ℕ) (t : S) (a : A) (e : Question) → i < length xs → a ≡ get_or xs i a → Leads next s (take i xs) t → next t a ≡ Err e → Stops next s xs (record { place = i; question = e })
   stops_here s xs i t a e within read l refused =
       (t, a, drop (suc i) xs, l, drop-cons xs i a within ∙ ap (λ y. y ∷ drop (suc i) xs) (sym read), refused)
+
+  -- a step that was performed, and one whose question became the refusal f of the place i
+  pub goes : (s t : S) (a : A) (r : Result (Unit {0}) Question) → Performs next s a r t → true ≡ is_ok r → next s a ≡ Ok t
+  goes s t a (Ok x) p ok = p
+  goes s t a (Err e) p ok = let z : ◌≡◌ {A = Bool} true false = ok in absurd (grind arith)
+
+  pub stops : (s t : S) (xs : List A) (i : ℕ) (was : S) (a : A) (r : Result (Unit {0}) Question) (f : Refusal) (gives : Question → Type 0) → i < length xs → a ≡ get_or xs i a → Leads next s (take i xs) was → Performs next was a r t
+      → MatchResult r (λ x. ◌≡◌ {A = Result (Unit {0}) Refusal} (Err f) (Ok x)) gives → ((e : Question) → gives e → f ≡ refusal e i) → Stops next s xs f
+  stops s t xs i was a (Ok x) f gives within read l p m k = absurd (let z : ◌≡◌ {A = ℕ} 0 1 = cc in omega arith)
+  stops s t xs i was a (Err e) f gives within read l p m k = subst (λ g. Stops next s xs g) (sym (k e m)) (stops_here s xs i was a e within read l p.0)
 
   pub leads_all : (s : S) (xs : List A) (i : ℕ) (t : S) → length xs ≤ i → Leads next s (take i xs) t → Leads next s xs t
   leads_all s xs i t h l = subst (λ ys. Leads next s ys t) (take_all i xs h) l
@@ -110,3 +122,9 @@ module _ {S A : Type 0} (next : S → A → Result S Question) where
       refused = λ g e. let same : f ≡ g = cc in subst (λ x. Fails next ends s xs x) same h;
       refuses = λ g k. ap Err (fails_same f g h k);
     }
+
+    -- the answer at the end, where the question became a refusal of the count of steps
+    pub judged_end : (t : S) (r : Result (Unit {0}) Question) (v : Result (Unit {0}) Refusal) (gives : Question → Type 0) → Leads next s xs t → r ≡ ends t
+        → MatchResult r (λ x. v ≡ Ok x) gives → ((e : Question) → gives e → v ≡ Err (refusal e (length xs))) → Judged next ends s xs v
+    judged_end t (Ok x) v gives l e m k = subst (λ w. Judged next ends s xs w) (sym m) (judged_ok (t, l, sym e))
+    judged_end t (Err q) v gives l e m k = subst (λ w. Judged next ends s xs w) (sym (k q m)) (judged_err (refusal q (length xs)) (inr (t, l, sym e, refl)))

@@ -43,9 +43,9 @@ pub fn run<W: World>(world: &W, steps: &[W::Step]) -> Result<W::State, Refusal>
 {
     let mut state = world.start();
     for (i, step) in steps.iter().enumerate() {
-        if let Err(question) = world.perform(&mut state, step) {
-            return Err(Refusal { question, place: i });
-        }
+        world
+            .perform(&mut state, step)
+            .map_err(|question| question.at(i))?;
     }
     Ok(state)
 }
@@ -55,11 +55,7 @@ pub fn judge<W: World>(world: &W, steps: &[W::Step]) -> Result<(), Refusal>
     ensures { Judged (W.leads world.now) (W.ends world.now) (W.begins world.now) steps.now result }
 {
     let state = run(world, steps)?;
-    match world.goal(&state) {
-        Ok(()) => Ok(()),
-        Err(question) => Err(Refusal {
-            question,
-            place: steps.len(),
-        }),
-    }
+    world
+        .goal(&state)
+        .map_err(|question| question.at(steps.len()))
 }

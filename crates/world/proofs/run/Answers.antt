@@ -1,5 +1,6 @@
-use Rattle.std.proofs.Common.{sym}
-use Rattle.world.proofs.Walks.{leads_more, leads_all, stops_here}
+use Rattle.std.proofs.Common.{sym, rules}
+use Rattle.std.proofs.lemmas.Result.{err_from_is_err_and}
+use Rattle.world.proofs.Walks.{leads_more, leads_all, goes, stops}
 use Rattle.world.proofs.run.Goals as goal
 
 pub loop-i-init : goal.loop-i-init
@@ -7,11 +8,13 @@ loop-i-init g c = sym c.start-state.ensures
 
 pub loop-i-preserved : goal.loop-i-preserved
 loop-i-preserved g c =
-    leads_more _ _ _ _ _ _ _ c.loop-i-test.true c.index-steps-i.is c.loop-i.invariant c.in_default.ensures
+    leads_more _ _ _ _ _ _ _ c.loop-i-test.true c.index-steps-i.is c.loop-i.invariant (goes (g.W.World.leads c.args.world.now) (g.W.World.model c.loop-i.state) (g.W.World.model c.perform.new.state) c.index-steps-i.result c.perform.result c.perform.ensures c.in_ok-map_err.ensures.variant)
 
-pub returns-in-Err : goal.returns-in-Err
-returns-in-Err g c =
-    stops_here _ _ _ _ _ _ _ c.loop-i-test.true c.index-steps-i.is c.loop-i.invariant c.in-Err.ensures.0
+pub returns-in_err-map_err : goal.returns-in_err-map_err
+returns-in_err-map_err g c =
+    let p = err_from_is_err_and c.from_residual.result c.from_residual.ensures.1 in
+    rw (p.1, p.2)
+    (stops _ _ _ _ c.loop-i.i-counter _ _ c.perform.result _ _ c.loop-i-test.true c.index-steps-i.is c.loop-i.invariant c.perform.ensures c.in_err-map_err.ensures.cases (λ e k. search rules))
 
 pub returns : goal.returns
 returns g c = leads_all _ _ _ _ _ c.loop-i-test.false c.loop-i.invariant

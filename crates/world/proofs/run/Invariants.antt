@@ -3,4 +3,4 @@ use Rattle.world.specs.Plans.{Leads}
 use Rattle.world.proofs.run.Given as goal
 
 abbrev pub invariant-loop-i : goal.invariant-loop-i
-invariant-loop-i g l = Leads (g.W.World.leads l.world) (g.W.World.begins l.world) (take l.i l.steps) (g.W.World.model l.state)
+invariant-loop-i g l = Leads (g.W.World.leads l.world) (g.W.World.begins l.world) (take l.i-counter l.steps) (g.W.World.model l.state)

@@ -1,9 +1,9 @@
-use Rattle.std.proofs.Common.{vec_items, ◌∙◌}
-use Rattle.coupling.proofs.Table.{row_found, row_past}
+use Rattle.std.proofs.Common.{vec_items, unwrap_or, ap, ◌∙◌}
+use Rattle.moves.specs.Lists.{literals_of}
+use Rattle.coupling.proofs.Table.{row_found}
 use Rattle.coupling.proofs.Written.companions.Goals as goal
 
-pub returns-in-Some : goal.returns-in-Some
-returns-in-Some c = row_found (vec_items c.args.self.now.rows) _ c.args.a c.in-Some.found c.deref.ensures.value c.in-Some.ensures.lookup
-
-pub returns-in-None : goal.returns-in-None
-returns-in-None c = c.empty.ensures ∙ row_past (vec_items c.args.self.now.rows) _ c.args.a c.deref.ensures.value c.in-None.ensures.lookup
+pub returns : goal.returns
+returns c =
+    let found = row_found (vec_items c.args.self.now.rows) _ c.from.result c.empty.result c.get.result c.deref.ensures.value c.get.ensures.lookup c.empty.ensures in
+    ap literals_of (c.unwrap_or.ensures ∙ ap (λ o. unwrap_or o c.empty.result) c.copied.ensures) ∙ (rw c.from.ensures at found)

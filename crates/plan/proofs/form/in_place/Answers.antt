@@ -1,14 +1,14 @@
+use Rattle.std.proofs.Common.{ℕ, rules, tests, ◌∙◌}
+use Rattle.std.proofs.lemmas.Iterator.{YieldsList-from_slice}
+use Rattle.std.proofs.lemmas.Iterator.Consumers.{YieldsList-from_enumerate, YieldsList-at}
+use Rattle.std.proofs.lemmas.Iterator.Search.{all_from_yields_List}
 use Rattle.task.specs.Views.{line_of}
-use Rattle.plan.proofs.Operands.{placed_more, placed_fails, placed_all}
+use Rattle.plan.specs.Form.{own}
+use Rattle.plan.proofs.Operands.{placed_all}
 use Rattle.plan.proofs.form.in_place.Goals as goal
 
-pub returns-then-not-is_own : goal.returns-then-not-is_own
-returns-then-not-is_own c =
-    placed_fails (line_of c.args.task.now) c.args.operands.now c.loop-i.i _ c.loop-i.invariant c.loop-i-test.true c.if-not-is_own.ensures
-
-pub loop-i-preserved : goal.loop-i-preserved
-loop-i-preserved c =
-    placed_more (line_of c.args.task.now) c.args.operands.now c.loop-i.i _ c.loop-i.invariant c.loop-i-test.true c.if-not-is_own.ensures
-
 pub returns : goal.returns
-returns c = placed_all (line_of c.args.task.now) c.args.operands.now c.loop-i.i _ c.loop-i.invariant c.loop-i-test.false
+returns c =
+    all_from_yields_List (λ (p : ℕ × ℕ). own (line_of c.args.task.now) p.0 p.1) _ _ _ c.all.ensures.ran
+    (YieldsList-from_enumerate (YieldsList-at c.enumerate.ensures.source (YieldsList-from_slice c.args.operands.now cc)) c.enumerate.ensures.count) (λ x b q k. search (rules, tests))
+    ∙ placed_all (line_of c.args.task.now) 0 c.args.operands.now

@@ -6,7 +6,7 @@ use Rattle.plan.proofs.Walks.{all_left, none_left, stops_first, stops_step, goes
 use Rattle.plan.proofs.form.read_joint.Goals as goal
 
 pub returns-then-file-gt-LIMIT : goal.returns-then-file-gt-LIMIT
-returns-then-file-gt-LIMIT c = over_limit (line_of c.args.task.now) c.args.file.now _ c.if-file-gt-LIMIT.true c.at.ensures
+returns-then-file-gt-LIMIT c = rw c.into.ensures (over_limit (line_of c.args.task.now) c.args.file.now _ c.if-file-gt-LIMIT.true c.at.ensures)
 
 pub loop-rest-init : goal.loop-rest-init
 loop-rest-init c = (omega arith, all_left _ _ _ (ap (map operands_of) c.new-steps.ensures.items))

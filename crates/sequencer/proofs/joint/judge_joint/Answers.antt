@@ -1,6 +1,5 @@
 use Rattle.std.proofs.lemmas.Result.{err_from_is_err_and}
 use Rattle.model.specs.Task as model
-use Rattle.step.specs.Outcome.{coupled_by}
 use Rattle.task_form.specs.Form.{form}
 use Rattle.sequencer.specs.Joint.{Verdict}
 use Rattle.sequencer.proofs.Leading.{filed, unfiled, with_task, without_task}
@@ -8,7 +7,7 @@ use Rattle.sequencer.proofs.joint.judge_joint.Goals as goal
 
 pub returns-in_err-read : goal.returns-in_err-read
 returns-in_err-read g c =
-    let K = coupled_by (g.C.Coupling.needed c.args.coupling.now) (g.C.Coupling.barred c.args.coupling.now) in
+    let K = g.C.Coupling.relations c.args.coupling.now in
     let p = err_from_is_err_and c.from_residual.result c.from_residual.ensures.1 in
     let e = c.in_err-read.field-0.0 in
     rw (p.1, p.2)
@@ -19,7 +18,7 @@ returns-in_err-read g c =
 
 pub returns : goal.returns
 returns g c =
-    let K = coupled_by (g.C.Coupling.needed c.args.coupling.now) (g.C.Coupling.barred c.args.coupling.now) in
+    let K = g.C.Coupling.relations c.args.coupling.now in
     let t = c.in_ok-read.read in
     let r = c.judge_joint_plan.result in
     record {

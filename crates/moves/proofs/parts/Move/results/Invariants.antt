@@ -9,6 +9,6 @@ use Rattle.moves.proofs.parts.Move.results.Given as goal
 -- what is gathered so far, and what the effects left would add, is the whole
 abbrev pub invariant-loop-effect : goal.invariant-loop-effect
 invariant-loop-effect l =
-    let s = members l.line in
-    let S = members l.moves in
+    let s = members l.context.line in
+    let S = members l.context.moves in
     both (literals_of l.all) (results (map effect_of (drop l.effect-index l.effect-items)) s S) ≡ results (map effect_of (vec_items l.self.effects)) s S

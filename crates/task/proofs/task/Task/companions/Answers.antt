@@ -1,7 +1,8 @@
-use Rattle.std.proofs.Common.{sym, ap, ◌∙◌}
+use Rattle.std.proofs.Common.{rules}
+use Rattle.moves.specs.Lists.{literals_of}
 use Rattle.task.specs.Views.{task_of}
-use Rattle.task.proofs.Looked.{move_past}
+use Rattle.task.proofs.Looked.{looked}
 use Rattle.task.proofs.task.Task.companions.Goals as goal
 
-pub returns-in-None : goal.returns-in-None
-returns-in-None c = c.empty.ensures ∙ sym (ap (λ m. m.companions) (move_past (task_of c.args.self.now).moves c.args.a c.in-None.ensures))
+pub returns : goal.returns
+returns c = looked (λ m. m.companions) literals_of (task_of c.args.self.now).moves c.args.a _ _ c.get.result _ c.get.ensures c.map_or.ensures c.empty.ensures (λ m p. search rules)

@@ -3,4 +3,4 @@ use Rattle.task.proofs.Looked.{found_move}
 use Rattle.task.proofs.task.Task.get.Goals as goal
 
 pub returns : goal.returns
-returns c = found_move (vec_items c.args.self.now.lists.moves) _ c.args.a c.get.result c.deref.ensures.value c.get.ensures.lookup
+returns c = rw c.from.ensures at (found_move (vec_items c.args.self.now.lists.moves) _ c.from.result c.get.result c.deref.ensures.value c.get.ensures.lookup)

@@ -1,11 +1,12 @@
-use Rattle.std.proofs.Common.{true, false, sym, ap, ◌∙◌}
+use Rattle.std.proofs.Common.{rules, ap, true, false}
 use Rattle.model.specs.Task.{results}
 use Rattle.sets.specs.Members.{members}
+use Rattle.moves.specs.Lists.{literals_of}
 use Rattle.task.specs.Views.{task_of}
-use Rattle.task.proofs.Looked.{move_past}
+use Rattle.task.proofs.Looked.{looked}
 use Rattle.task.proofs.task.Task.results.Goals as goal
 
-pub returns-in-None : goal.returns-in-None
-returns-in-None c =
-    let past = sym (ap (λ m. results m.effects (members c.args.line) (members c.args.moves)) (move_past (task_of c.args.self.now).moves c.args.a c.in-None.ensures)) in
-    record { sets = ap (λ l. l true) (c.empty.ensures ∙ past); clears = ap (λ l. l false) (c.empty.ensures ∙ past) }
+pub returns : goal.returns
+returns c =
+    let e = looked (λ m. results m.effects (members c.args.context.line) (members c.args.context.moves)) literals_of (task_of c.args.self.now).moves c.args.a _ _ c.get.result _ c.get.ensures c.map_or.ensures c.empty.ensures (λ m p. search rules) in
+    record { sets = ap (λ l. l true) e; clears = ap (λ l. l false) e }
