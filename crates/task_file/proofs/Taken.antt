@@ -1,5 +1,5 @@
 -- What the code holds after a command is what the definitions say. Assumes nothing.
-use Rattle.std.proofs.Common.{◌⊎◌, inl, inr, ◌≡◌, ℕ, ◌+◌, ◌<◌, ◌≤◌, Bool, true, false, cond, ◌&&◌, List, [], ◌∷◌, ◌++◌, map, length, Ok, vec_items, vec_len, Result, sym, ap, ◌∙◌, add-one, arith, le-ltb, lt-ltb}
+use Rattle.std.proofs.Common.{◌⊎◌, inl, inr, ◌≡◌, ℕ, ◌+◌, ◌<◌, Bool, true, false, cond, ◌&&◌, List, [], ◌∷◌, ◌++◌, map, length, Ok, vec_items, vec_len, Result, sym, ap, ◌∙◌, add-one, arith, lt-ltb}
 use lib.ListN.{length-map}
 use Rattle.std.proofs.lemmas.List.{map_push}
 use Rattle.refusals.specs.declared.Question.TheVariants as Q
@@ -42,25 +42,18 @@ pushed_means vs ws v e = ap (map move_of) e ∙ map_push move_of vs v
 pub effects_counted : (v : Move) → length (move_of v).effects ≡ vec_len v.effects
 effects_counted v = length-map (vec_items v.effects) effect_of ∙ sym v.effects.ok.0
 
--- one effect more, or the ninth
-module _ (n : Named) (v : Move) (e : model.Effect) (p : ℕ) where
-  abbrev counted : ℕ
-  counted = vec_len v.effects
+-- one effect more, which is at most the eighth
+pub effects_more : (n : Named) (v : Move) (x : Effect) (w : Move) (f : Effect) (p : ℕ) → Extends v x w → effect_of f ≡ no_effect → vec_len v.effects + 1 < 8
+    → in_effect n (move_of v) (effect_of x) C.Effect p ≡ Ok (n, effect (move_of w) (effect_of f))
+effects_more n v x w f p g b h = rw (effects_counted v, ← add-one (vec_len v.effects), lt-ltb (vec_len v.effects + 1) 8 h, extends_means v x w g, b)
 
-  pub effects_full : 8 ≤ counted + 1 → in_effect n (move_of v) e C.Effect p ≡ refused Q.Effects p
-  effects_full h = rw (effects_counted v, ← add-one counted, le-ltb (counted + 1) 8 h)
+-- MOVE or END after a move, which is complete then: the lists m have it too
+module _ (n : Named) (k : Command) (p : ℕ) (at : ((s : ℕ) × (k ≡ C.Move s)) ⊎ (k ≡ C.End)) (m : Named) where
+  pub after_move : (v : model.Move) → m ≡ with_move n v → in_move n v k p ≡ in_lists m k p
+  after_move v e = elim at [ inl s ↦ rw (s.1, e) | inr q ↦ rw (q, e) ]
 
-  pub effects_more : (w : Move) (x : Effect) (f : Effect) → e ≡ effect_of x → Extends v x w → effect_of f ≡ no_effect → counted + 1 < 8
-      → in_effect n (move_of v) e C.Effect p ≡ Ok (n, effect (move_of w) (effect_of f))
-  effects_more w x f a g b h = rw (effects_counted v, ← add-one counted, lt-ltb (counted + 1) 8 h, extends_means v x w g, b, a)
-
--- MOVE or END after a move, which is complete then
-module _ (n : Named) (v : model.Move) (k : Command) (p : ℕ) (at : ((s : ℕ) × (k ≡ C.Move s)) ⊎ (k ≡ C.End)) where
-  pub after_move : in_move n v k p ≡ in_lists (with_move n v) k p
-  after_move = elim at [ inl s ↦ rw s.1 | inr e ↦ rw e ]
-
-  pub after_effect : (e : model.Effect) → in_effect n v e k p ≡ in_lists (with_move n (with_effect v e)) k p
-  after_effect e = elim at [ inl s ↦ rw s.1 | inr e ↦ rw e ]
+  pub after_effect : (v : Move) (x : Effect) (w : Move) → Extends v x w → m ≡ with_move n (move_of w) → in_effect n (move_of v) (effect_of x) k p ≡ in_lists m k p
+  after_effect v x w g e = elim at [ inl s ↦ rw (s.1, e, extends_means v x w g) | inr q ↦ rw (q, e, extends_means v x w g) ]
 
 -- the lists after SIZES
 pub first_lists : (n f m : ℕ) (z : Counts) (s : Set) (g : Literals) (vs : List Move) → Ok z ≡ sized n f m 0 → s ≡ none → g ≡ no_literals → vs ≡ []

@@ -1,10 +1,8 @@
-use Rattle.std.proofs.Common.{sym, ap, ◌∙◌, rules, refl}
+use Rattle.std.proofs.Common.{sym, ◌∙◌, rules}
 use Rattle.std.proofs.lemmas.Bool.{and_from}
 use Rattle.std.proofs.lemmas.Result.{err_from_is_err_and}
-use Rattle.task_form.specs.Reading.{in_lists, with_move}
-use Rattle.task_file.specs.Views.{named_of}
 use Rattle.task_file.proofs.Fits.{grown_fits, grown_stands, move_now_stands, effect_now_fits, condition_fits, alongside_fits, result_fits}
-use Rattle.task_file.proofs.Taken.{after_effect, effects_more, extends_means}
+use Rattle.task_file.proofs.Taken.{after_effect, effects_more}
 use Rattle.task_file.proofs.named.Lists.in_effect.Goals as goal
 use Rattle.task_file.proofs.named.Lists.in_effect.Goals.{in-If+in_ok-conditions-in-If, in-IfMove+in_ok-alongside-in-IfMove, in-Then+in_ok-results-in-Then, in-Effect-2+in_ok-with_effect-in-Effect-2}
 
@@ -17,16 +15,12 @@ pub returns-in_err-in_lists-in-Move-clause-took : goal.returns-in_err-in_lists-i
 returns-in_err-in_lists-in-Move-clause-took c =
     let p = err_from_is_err_and c.from_residual-in_err-in_lists-in-Move.result c.from_residual-in_err-in_lists-in-Move.ensures.1 in
     rw (p.1, p.2)
-    (after_effect _ _ _ _ c.in-Move.is _
-    ∙ ap (λ n. in_lists n c.args.command c.args.place)
-    (ap (with_move (named_of c.args.self)) (sym (extends_means c.args.current c.args.effect c.in_ok-complete-in-Move.complete c.in_ok-complete-in-Move.ensures)) ∙ sym c.in_ok-with_move-in-Move.ensures)
+    (after_effect _ _ _ c.in-Move.is _ c.args.current c.args.effect c.in_ok-complete-in-Move.complete c.in_ok-complete-in-Move.ensures c.in_ok-with_move-in-Move.ensures
     ∙ sym c.in_err-in_lists-in-Move.ensures.value)
 
 pub returns-in-Move-clause-took : goal.returns-in-Move-clause-took
 returns-in-Move-clause-took c =
-    after_effect _ _ _ _ c.in-Move.is _
-    ∙ ap (λ n. in_lists n c.args.command c.args.place)
-    (ap (with_move (named_of c.args.self)) (sym (extends_means c.args.current c.args.effect c.in_ok-complete-in-Move.complete c.in_ok-complete-in-Move.ensures)) ∙ sym c.in_ok-with_move-in-Move.ensures)
+    after_effect _ _ _ c.in-Move.is _ c.args.current c.args.effect c.in_ok-complete-in-Move.complete c.in_ok-complete-in-Move.ensures c.in_ok-with_move-in-Move.ensures
     ∙ sym c.in_ok-in_lists-in-Move.ensures.value
 
 pub invariant_of-result : goal.invariant_of-result
@@ -48,5 +42,5 @@ returns-clause-took c = elim c.match-command.branch [
   | in-If+in_ok-conditions-in-If w ↦ search rules
   | in-IfMove+in_ok-alongside-in-IfMove w ↦ search rules
   | in-Then+in_ok-results-in-Then w ↦ search rules
-  | in-Effect-2+in_ok-with_effect-in-Effect-2 w ↦ rw (w.part-is, w.in-Effect-2.is) (effects_more _ c.args.current _ _ w.in_ok-with_effect-in-Effect-2.field-0 c.args.effect w.empty.result refl w.in_ok-with_effect-in-Effect-2.ensures w.empty.ensures (search rules))
+  | in-Effect-2+in_ok-with_effect-in-Effect-2 w ↦ rw (w.part-is, w.in-Effect-2.is) (effects_more _ c.args.current c.args.effect w.in_ok-with_effect-in-Effect-2.field-0 w.empty.result _ w.in_ok-with_effect-in-Effect-2.ensures w.empty.ensures (search rules))
 ]

@@ -1,16 +1,12 @@
-use Rattle.std.proofs.Common.{sym, ap, ◌∙◌, rules}
+use Rattle.std.proofs.Common.{sym, ◌∙◌, rules}
 use Rattle.std.proofs.lemmas.Bool.{and_from}
-use Rattle.task_form.specs.Reading.{in_lists}
 use Rattle.task_file.proofs.Fits.{need_stands, companion_stands, no_effect_fits}
 use Rattle.task_file.proofs.Taken.{after_move}
 use Rattle.task_file.proofs.named.Lists.in_move.Goals as goal
 use Rattle.task_file.proofs.named.Lists.in_move.Goals.{in-Need+in_ok-needs-in-Need, in-With+in_ok-companions-in-With, in-Effect}
 
 pub returns-in-Move-clause-took : goal.returns-in-Move-clause-took
-returns-in-Move-clause-took c =
-    after_move _ _ _ _ c.in-Move.is
-    ∙ ap (λ n. in_lists n c.args.command c.args.place) (sym c.in_ok-with_move-in-Move.ensures)
-    ∙ sym c.in_ok-in_lists-in-Move.ensures.value
+returns-in-Move-clause-took c = after_move _ _ _ c.in-Move.is _ _ c.in_ok-with_move-in-Move.ensures ∙ sym c.in_ok-in_lists-in-Move.ensures.value
 
 pub invariant_of-result : goal.invariant_of-result
 invariant_of-result c =
