@@ -98,12 +98,13 @@ impl Lists {
         ensures asked { Asked place result }
         ensures value { seen drafted result ≡ lists_take (named_of self) command place }
     {
-        let fluents = self.sizes.fluents;
         match command {
             Command::Start(fluent) => {
-                self.start = with_number(self.start, fluent, fluents, place)?;
+                self.start = with_number(self.start, fluent, self.sizes.fluents, place)?;
             }
-            Command::Goal(literal) => self.goal = self.goal.add(literal, fluents, place)?,
+            Command::Goal(literal) => {
+                self.goal = self.goal.add(literal, self.sizes.fluents, place)?;
+            }
             Command::Move(station) => return self.begin(station, place),
             Command::End => return self.end(place),
             _ => return Err(Question::Order.at(place)),
@@ -187,6 +188,7 @@ impl Lists {
                 let results = effect.results.add(literal, self.sizes.fluents, place)?;
                 Part::Effect(current, Effect { results, ..effect })
             }
+            // The effect that is not complete yet is not among those of the move.
             Command::Effect if current.effects.len() + 1 >= MOST_EFFECTS => {
                 return Err(Question::Effects.at(place).into());
             }
