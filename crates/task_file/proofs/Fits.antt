@@ -1,5 +1,5 @@
 -- Numbers stay within the sizes as lists grow. Assumes nothing.
-use Rattle.std.proofs.Common.{◌≡◌, ℕ, suc, ◌+◌, ◌<◌, Bool, true, false, cond, ◌&&◌, ltb, leb, List, [], ◌∷◌, ◌++◌, map, length, Ok, vec_items, vec_len, sym, refl, ap, ◌∙◌, subst, arith}
+use Rattle.std.proofs.Common.{◌≡◌, ℕ, suc, ◌+◌, ◌<◌, Bool, true, ◌&&◌, ltb, leb, List, [], ◌∷◌, ◌++◌, map, length, Ok, vec_items, vec_len, sym, refl, ap, ◌∙◌, subst, arith}
 use lib.ListN.{length-map}
 use Rattle.std.proofs.lemmas.Bool.{and_parts, and_from, ltb-true, lt-ltb, le-leb}
 use Rattle.model.specs.Sets.{Literals, no_literals, within}
@@ -13,9 +13,6 @@ use Rattle.moves.specs.declared.lists.Literal.{Literal}
 use Rattle.moves.specs.declared.lists.Literals as code
 use Rattle.moves.specs.declared.parts.Effect.{Effect}
 use Rattle.moves.specs.declared.parts.Move.{Move}
-
-pub empty_moves : (n f m : ℕ) (vs : List Move) → vs ≡ [] → moves_fit n f m (map move_of vs) ≡ true
-empty_moves n f m vs e = subst (λ (xs : List Move). moves_fit n f m (map move_of xs) ≡ true) (sym e) refl
 
 pub effects_push : (f m : ℕ) (es : List Effect) (e : Effect) → effects_fit f m (map effect_of es) ≡ true → effect_fits f m (effect_of e) ≡ true
     → effects_fit f m (map effect_of (es ++ (e ∷ []))) ≡ true
@@ -136,9 +133,3 @@ module _ (n f m : ℕ) (v : Move) (e : Effect) (h : (move_stands n f m (move_of 
         let own : vec_len v.effects ≡ length so_far = v.effects.ok.0 ∙ sym (length-map (vec_items v.effects) effect_of) in
         let all = grown_length in
         and_from _ _ (and_from _ _ grown_fits (lt-ltb _ 8 (omega arith))) (no_effect_fits f m e' new)
-
--- a move that is complete joins the others, if there is memory for it
-pub moves_pushed : (n f m : ℕ) (vs vs' : List Move) (v : Move) (b : Bool) → moves_fit n f m (map move_of vs) ≡ true → move_fits n f m (move_of v) ≡ true
-    → vs' ≡ cond b (vs ++ (v ∷ [])) vs → moves_fit n f m (map move_of vs') ≡ true
-moves_pushed n f m vs vs' v true h g e = subst (λ (xs : List Move). moves_fit n f m (map move_of xs) ≡ true) (sym e) (moves_push n f m vs v h g)
-moves_pushed n f m vs vs' v false h g e = subst (λ (xs : List Move). moves_fit n f m (map move_of xs) ≡ true) (sym e) h

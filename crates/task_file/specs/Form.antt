@@ -1,7 +1,5 @@
 -- What holds while a task file is read. Assumes nothing.
-use Rattle.std.specs.Prelude.{◌≡◌, ℕ, Bool, true, ◌&&◌, length, Ok, Err, vec_len, Result, ◌==◌, nat_lt}
-use Rattle.refusals.specs.Answers.{Blamed}
-use Rattle.refusals.specs.declared.Fault.{Fault}
+use Rattle.std.specs.Prelude.{ℕ, Bool, true, ◌&&◌, length, vec_len, ◌==◌, nat_lt}
 use Rattle.model.specs.Task as model
 use Rattle.model.specs.Task.{effect_fits, move_fits}
 use Rattle.moves.specs.Parts.{effect_of, move_of}
@@ -21,8 +19,3 @@ stands l (P.Effect v e) =
     move_stands l.sizes.stations l.sizes.fluents l.sizes.moves (move_of v)
     && effect_fits l.sizes.fluents l.sizes.moves (effect_of e)
 stands l P.Ended = vec_len l.moves == l.sizes.moves
-
--- what taking one command at the place p answers
-abbrev pub Taken : ℕ → code.Lists → Result parts.Part Fault → Type 0
-Taken p l (Ok x) = stands l x ≡ true
-Taken p l (Err e) = Blamed p e

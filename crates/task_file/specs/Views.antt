@@ -43,17 +43,6 @@ task_in l = task_named (named_of l)
 abbrev pub sized : (n f m p : ℕ) → Result Counts Refusal
 sized n f m p = cond (up_to 16 n && (up_to 128 f && up_to 64 m)) (Ok (record { stations = n; fluents = f; moves = m })) (refused Range p)
 
--- the answer to one command, which leaves the lists l; want of memory apart
-abbrev pub Took : Read → Lists → Result code.Part Fault → Type 0
-Took want l (Ok x) = want ≡ Ok (named_of l, stage_of x)
-Took want l (Err (Refused e)) = want ≡ Err e
-Took want l (Err Memory) = Unit {0}
-
--- the lists after a move more; only memory can be wanting
-abbrev pub Joined : Lists → model.Move → Lists → Result (Unit {0}) Fault → Type 0
-Joined l v k (Ok u) = named_of k ≡ reading.with_move (named_of l) v
-Joined l v k (Err e) = e ≡ Memory
-
 -- the answer to a whole file; want of memory apart
 abbrev pub Reads : Result model.Task Refusal → Result Lists Fault → Type 0
 Reads form (Ok l) = (form ≡ Ok (task_in l)) × (vec_len l.moves ≡ l.sizes.moves)

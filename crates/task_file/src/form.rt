@@ -1,28 +1,36 @@
 // The form of a task file, command by command.
-ghost use Rattle.std.specs.Prelude.{◌≡◌, ◌+◌, true, IfOk, IfErr, vec_len, nat_lt};
-ghost use Rattle.model.specs.Task.{effect_fits, move_fits};
-ghost use Rattle.refusals.specs.Answers.{Asked, seen};
+ghost use Rattle.std.specs.Prelude.{◌≡◌, true, IfOk, IfErr};
+ghost use Rattle.model.specs.Task.{move_fits};
+ghost use Rattle.refusals.specs.Answers.{Asked, Blamed, seen};
 ghost use Rattle.moves.specs.Parts.{effect_of, move_of};
-ghost use Rattle.task_file.specs.Form.{Taken, stands};
-ghost use Rattle.task_form.specs.Reading.{first_named, begins, ends, extended as effect_with, in_lists as lists_take, in_move as move_takes, in_effect as effect_takes, takes};
-ghost use Rattle.task_file.specs.Views.{counts_of, named_of, stage_of, sized, Took, Joined};
+ghost use Rattle.task_file.specs.Form.{stands};
+ghost use Rattle.task_form.specs.Reading.{first_named, begins, ends, with_move, in_lists as lists_take, in_move as move_takes, in_effect as effect_takes, takes};
+ghost use Rattle.task_file.specs.Views.{counts_of, named_of, stage_of, sized};
 
 use crate::named::{Lists, Sizes};
 use moves::{Effect, Literals, Move, with_number};
 use refusals::{Fault, Question, Refusal};
 use sets::IndexSet;
-use std::alloc::Global;
+use std::alloc::{AllocFailed, Global};
 use task_command::Command;
 
 const MOST_EFFECTS: usize = 8;
 
 // The part of the file that the next command stands in, with the move and the effect that are not complete yet.
 #[derive(Drop)]
-pub enum Part {
+pub(crate) enum Part {
     Lists,
     Move(Move),
     Effect(Move, Effect),
     Ended,
+}
+
+// A task file as far as it has been read: its lists, and the part that the next command stands in.
+#[derive(Drop)]
+pub(crate) struct Draft {
+    pub(crate) lists: Lists,
+    pub(crate) part: Part,
+    ghost standing: { stands lists part ≡ true },
 }
 
 impl Sizes {
@@ -31,12 +39,9 @@ impl Sizes {
         ensures asked { Asked place result }
         ensures value { seen counts_of result ≡ sized stations fluents moves place }
     {
-        if stations < 1
-            || stations > 16
-            || fluents < 1
-            || fluents > 128
-            || moves < 1
-            || moves > 64
+        if !(1..=16).contains(&stations)
+            || !(1..=128).contains(&fluents)
+            || !(1..=64).contains(&moves)
         {
             return Err(Question::Range.at(place));
         }
@@ -48,216 +53,191 @@ impl Sizes {
     }
 }
 
-// The effect after one of its own commands: a condition, a move condition or a result.
-fn extended(effect: Effect, sizes: Sizes, command: Command, place: usize) -> Result<Effect, Refusal>
-    requires { effect_fits sizes.fluents sizes.moves (effect_of effect) ≡ true }
-    ensures fits { IfOk result (λ e. effect_fits sizes.fluents sizes.moves (effect_of e) ≡ true) }
-    ensures asked { Asked place result }
-    ensures value { seen effect_of result ≡ effect_with (counts_of sizes) (effect_of effect) command place }
-{
-    let mut longer = effect;
-    match command {
-        Command::If(literal) => {
-            longer.conditions = effect.conditions.add(literal, sizes.fluents, place)?;
-        }
-        Command::IfMove(literal) => {
-            longer.alongside = effect.alongside.add(literal, sizes.moves, place)?;
-        }
-        Command::Then(literal) => {
-            longer.results = effect.results.add(literal, sizes.fluents, place)?;
-        }
-        _ => return Err(Question::Order.at(place)),
-    }
-    Ok(longer)
-}
-
-// May a move have another effect? The one that is not complete yet is not counted among its effects.
-fn may_grow(current: &Move) -> bool
-    ensures { result ≡ nat_lt (vec_len current.now.effects + 1) 8 }
-{
-    current.effects.len() + 1 < MOST_EFFECTS
-}
-
 impl Lists {
-    // Is a move still to come?
-    fn lacks_moves(&self) -> bool
-        ensures { result ≡ nat_lt (vec_len self.now.moves) self.now.sizes.moves }
-    {
-        self.moves.len() < self.sizes.moves as usize
-    }
+    ghost use Rattle.task_file.specs.Draft.{drafted, Took};
 
     // A new move at MOVE, unless the last one was there already.
-    fn begin(&self, heap: Global, station: u8, place: usize) -> Result<Part, Fault>
-        ensures taken { Taken place self.now result }
-        ensures took { Took (begins (named_of self.now) station place) self.now result }
+    fn begin(self, station: u8, place: usize) -> Result<Draft, Refusal>
+        ensures asked { Asked place result }
+        ensures value { seen drafted result ≡ begins (named_of self) station place }
     {
-        if !self.lacks_moves() {
-            return Err(Fault::Refused(Question::Order.at(place)));
+        if self.moves.len() >= usize::from(self.sizes.moves) {
+            return Err(Question::Order.at(place));
         }
         if station >= self.sizes.stations {
-            return Err(Fault::Refused(Question::Range.at(place)));
+            return Err(Question::Range.at(place));
         }
-        Ok(Part::Move(Move {
+        let current = Move {
             station,
             needs: Literals::empty(),
             companions: Literals::empty(),
-            effects: Vec::new(heap),
-        }))
+            effects: Vec::new(*self.moves.allocator()),
+        };
+        Ok(Draft {
+            lists: self,
+            part: Part::Move(current),
+        })
     }
 
     // END, once all moves are there.
-    fn end(&self, place: usize) -> Result<Part, Fault>
-        ensures taken { Taken place self.now result }
-        ensures took { Took (ends (named_of self.now) place) self.now result }
+    fn end(self, place: usize) -> Result<Draft, Refusal>
+        ensures asked { Asked place result }
+        ensures value { seen drafted result ≡ ends (named_of self) place }
     {
-        if self.moves.len() != self.sizes.moves as usize {
-            return Err(Fault::Refused(Question::Order.at(place)));
+        if self.moves.len() != usize::from(self.sizes.moves) {
+            return Err(Question::Order.at(place));
         }
-        Ok(Part::Ended)
+        Ok(Draft {
+            lists: self,
+            part: Part::Ended,
+        })
     }
 
-    // A command before the first move.
-    fn in_lists(&mut self, heap: Global, command: Command, place: usize) -> Result<Part, Fault>
-        ensures sizes { self.new.sizes ≡ self.old.sizes }
-        ensures taken { Taken place self.new result }
-        ensures took { Took (lists_take (named_of self.old) command place) self.new result }
+    // A command that stands in no move. After a move only MOVE and END come here.
+    fn in_lists(mut self, command: Command, place: usize) -> Result<Draft, Refusal>
+        ensures asked { Asked place result }
+        ensures value { seen drafted result ≡ lists_take (named_of self) command place }
     {
-        let fluents = self.sizes.fluents;
         match command {
-            Command::Start(k) => {
-                self.start = with_number(self.start, k, fluents, place)?;
-                Ok(Part::Lists)
+            Command::Start(fluent) => {
+                self.start = with_number(self.start, fluent, self.sizes.fluents, place)?;
             }
             Command::Goal(literal) => {
-                self.goal = self.goal.add(literal, fluents, place)?;
-                Ok(Part::Lists)
+                self.goal = self.goal.add(literal, self.sizes.fluents, place)?;
             }
-            Command::Move(station) => self.begin(heap, station, place),
-            Command::End => self.end(place),
-            _ => Err(Fault::Refused(Question::Order.at(place))),
+            Command::Move(station) => return self.begin(station, place),
+            Command::End => return self.end(place),
+            _ => return Err(Question::Order.at(place)),
         }
+        Ok(Draft {
+            lists: self,
+            part: Part::Lists,
+        })
     }
 
-    // A move that is complete joins the others.
-    fn complete(&mut self, current: Move) -> Result<(), Fault>
-        requires { move_fits self.old.sizes.stations self.old.sizes.fluents self.old.sizes.moves (move_of current) ≡ true }
-        ensures sizes { self.new.sizes ≡ self.old.sizes }
-        ensures memory { IfErr result (λ e. e ≡ Fault.Memory) }
-        ensures joined { Joined self.old (move_of current) self.new result }
+    // The lists with one move more, which is complete.
+    fn with_move(mut self, complete: Move) -> Result<Lists, AllocFailed<Move>>
+        requires { move_fits self.sizes.stations self.sizes.fluents self.sizes.moves (move_of complete) ≡ true }
+        ensures { IfOk result (λ l. named_of l ≡ with_move (named_of self) (move_of complete)) }
     {
-        self.moves.push(current)?;
-        Ok(())
+        self.moves.push(complete)?;
+        Ok(self)
     }
 
     // A command in a move, before its first effect.
-    fn in_move(
-        &mut self,
-        heap: Global,
-        mut current: Move,
-        command: Command,
-        place: usize,
-    ) -> Result<Part, Fault>
-        requires { stands self.old (Part.Move current) ≡ true }
-        ensures sizes { self.new.sizes ≡ self.old.sizes }
-        ensures taken { Taken place self.new result }
-        ensures took { Took (move_takes (named_of self.old) (move_of current) command place) self.new result }
+    fn in_move(self, current: Move, command: Command, place: usize) -> Result<Draft, Fault>
+        requires { stands self (Part.Move current) ≡ true }
+        ensures blamed { IfErr result (Blamed place) }
+        ensures took { Took (move_takes (named_of self) (move_of current) command place) result }
     {
-        match command {
+        let part = match command {
             Command::Need(literal) => {
-                current.needs = current.needs.add(literal, self.sizes.fluents, place)?;
-                Ok(Part::Move(current))
+                let needs = current.needs.add(literal, self.sizes.fluents, place)?;
+                Part::Move(Move { needs, ..current })
             }
             Command::With(literal) => {
-                current.companions = current.companions.add(literal, self.sizes.moves, place)?;
-                Ok(Part::Move(current))
+                let companions = current.companions.add(literal, self.sizes.moves, place)?;
+                Part::Move(Move {
+                    companions,
+                    ..current
+                })
             }
-            Command::Effect => Ok(Part::Effect(current, Effect::empty())),
-            Command::Move(station) => {
-                self.complete(current)?;
-                self.begin(heap, station, place)
+            Command::Effect => Part::Effect(current, Effect::empty()),
+            Command::Move(_) | Command::End => {
+                return Ok(self.with_move(current)?.in_lists(command, place)?);
             }
-            Command::End => {
-                self.complete(current)?;
-                self.end(place)
-            }
-            _ => Err(Fault::Refused(Question::Order.at(place))),
-        }
+            _ => return Err(Question::Order.at(place).into()),
+        };
+        Ok(Draft { lists: self, part })
     }
 
     // A command in an effect.
     fn in_effect(
-        &mut self,
-        heap: Global,
+        self,
         current: Move,
         effect: Effect,
         command: Command,
         place: usize,
-    ) -> Result<Part, Fault>
-        requires { stands self.old (Part.Effect current effect) ≡ true }
-        ensures sizes { self.new.sizes ≡ self.old.sizes }
-        ensures taken { Taken place self.new result }
-        ensures took { Took (effect_takes (named_of self.old) (move_of current) (effect_of effect) command place) self.new result }
+    ) -> Result<Draft, Fault>
+        requires { stands self (Part.Effect current effect) ≡ true }
+        ensures blamed { IfErr result (Blamed place) }
+        ensures took { Took (effect_takes (named_of self) (move_of current) (effect_of effect) command place) result }
     {
-        match command {
-            Command::Effect => {
-                if !may_grow(&current) {
-                    return Err(Fault::Refused(Question::Effects.at(place)));
-                }
-                let grown = current.with_effect(effect)?;
-                Ok(Part::Effect(grown, Effect::empty()))
+        let part = match command {
+            Command::If(literal) => {
+                let conditions = effect.conditions.add(literal, self.sizes.fluents, place)?;
+                Part::Effect(
+                    current,
+                    Effect {
+                        conditions,
+                        ..effect
+                    },
+                )
             }
-            Command::Move(station) => {
-                let grown = current.with_effect(effect)?;
-                self.complete(grown)?;
-                self.begin(heap, station, place)
+            Command::IfMove(literal) => {
+                let alongside = effect.alongside.add(literal, self.sizes.moves, place)?;
+                Part::Effect(
+                    current,
+                    Effect {
+                        alongside,
+                        ..effect
+                    },
+                )
             }
-            Command::End => {
-                let grown = current.with_effect(effect)?;
-                self.complete(grown)?;
-                self.end(place)
+            Command::Then(literal) => {
+                let results = effect.results.add(literal, self.sizes.fluents, place)?;
+                Part::Effect(current, Effect { results, ..effect })
             }
-            _ => {
-                let longer = extended(effect, self.sizes, command, place)?;
-                Ok(Part::Effect(current, longer))
+            // The effect that is not complete yet is not among those of the move.
+            Command::Effect if current.effects.len() + 1 >= MOST_EFFECTS => {
+                return Err(Question::Effects.at(place).into());
             }
-        }
+            Command::Effect => Part::Effect(current.with_effect(effect)?, Effect::empty()),
+            Command::Move(_) | Command::End => {
+                let complete = current.with_effect(effect)?;
+                return Ok(self.with_move(complete)?.in_lists(command, place)?);
+            }
+            _ => return Err(Question::Order.at(place).into()),
+        };
+        Ok(Draft { lists: self, part })
     }
+}
 
-    // No list yet: SIZES stands first in the file.
-    pub(crate) fn first(heap: Global, command: Command) -> Result<Lists, Refusal>
+impl Draft {
+    ghost use Rattle.task_file.specs.Draft.{Took};
+
+    // SIZES stands first in a file.
+    pub(crate) fn first(heap: Global, command: Command) -> Result<Draft, Refusal>
         ensures asked { Asked 0 result }
-        ensures value { seen named_of result ≡ first_named command }
+        ensures value { seen (λ d. named_of d.lists) result ≡ first_named command }
+        ensures begun { IfOk result (λ d. d.part ≡ Part.Lists) }
     {
         let Command::Sizes(stations, fluents, moves) = command else {
             return Err(Question::Order.at(0));
         };
-        Ok(Lists {
+        let lists = Lists {
             sizes: Sizes::named(stations, fluents, moves, 0)?,
             start: IndexSet::empty(),
             goal: Literals::empty(),
             moves: Vec::new(heap),
+        };
+        Ok(Draft {
+            lists,
+            part: Part::Lists,
         })
     }
 
-    // The part that the next command stands in, after one more command.
-    pub(crate) fn take(
-        &mut self,
-        heap: Global,
-        part: Part,
-        command: Command,
-        place: usize,
-    ) -> Result<Part, Fault>
-        requires { stands self.old part ≡ true }
-        ensures taken { Taken place self.new result }
-        ensures took { Took (takes (named_of self.old) (stage_of part) command place) self.new result }
+    // The draft after one more command.
+    pub(crate) fn take(self, command: Command, place: usize) -> Result<Draft, Fault>
+        ensures blamed { IfErr result (Blamed place) }
+        ensures took { Took (takes (named_of self.lists) (stage_of self.part) command place) result }
     {
+        let Draft { lists, part } = self;
         match part {
-            Part::Lists => self.in_lists(heap, command, place),
-            Part::Move(current) => self.in_move(heap, current, command, place),
-            Part::Effect(current, effect) => {
-                self.in_effect(heap, current, effect, command, place)
-            }
-            Part::Ended => Err(Fault::Refused(Question::Order.at(place))),
+            Part::Lists => Ok(lists.in_lists(command, place)?),
+            Part::Move(current) => lists.in_move(current, command, place),
+            Part::Effect(current, effect) => lists.in_effect(current, effect, command, place),
+            Part::Ended => Err(Question::Order.at(place).into()),
         }
     }
 }

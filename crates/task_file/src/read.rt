@@ -1,10 +1,10 @@
 // Reading the lists of a task file.
-ghost use Rattle.std.specs.Prelude.{◌≡◌, ◌≤◌, length, vec_len, MatchResult, nat_lt};
+ghost use Rattle.std.specs.Prelude.{◌≡◌, ◌≤◌, length, vec_len, MatchResult};
 ghost use Rattle.refusals.specs.Answers.{Within};
 ghost use Rattle.task_form.specs.Form.{form};
 ghost use Rattle.task_file.specs.Views.{Reads};
 
-use crate::form::Part;
+use crate::form::{Draft, Part};
 use crate::named::Lists;
 use refusals::{Fault, Question};
 use std::alloc::Global;
@@ -13,34 +13,26 @@ use task_command::next;
 // The most bytes that a task file may have.
 pub const LIMIT: usize = 8192;
 
-// Has a file more bytes than a task file may have?
-fn is_too_long(file: &[u8]) -> bool
-    ensures { result ≡ nat_lt 8192 (length file.now) }
-{
-    file.len() > LIMIT
-}
-
 // What a file names, with all its moves: the task that it denotes, or the first question answered no. A refusal names a
 // question of form, at an offset in the file or at its length.
 pub fn read_lists(heap: Global, file: &[u8]) -> Result<Lists, Fault>
     ensures exact { Reads (form file.now) result }
     ensures placed { MatchResult result (λ l. (vec_len l.moves ≡ l.sizes.moves) × (length file.now ≤ 8192)) (Within (length file.now)) }
 {
-    if is_too_long(file) {
-        return Err(Fault::Refused(Question::Limit.at(0)));
+    if file.len() > LIMIT {
+        return Err(Question::Limit.at(0).into());
     }
-    let (command, after) = next(file, 0)?;
-    let mut lists = Lists::first(heap, command)?;
-    let mut part = Part::Lists;
-    let mut rest = after;
+    let (command, mut rest) = next(file, 0)?;
+    let mut draft = Draft::first(heap, command)?;
     while !rest.is_empty() {
         let place = file.len() - rest.len();
         let (command, after) = next(rest, place)?;
-        part = lists.take(heap, part, command, place)?;
+        draft = draft.take(command, place)?;
         rest = after;
     }
+    let Draft { lists, part } = draft;
     let Part::Ended = part else {
-        return Err(Fault::Refused(Question::Command.at(file.len())));
+        return Err(Question::Command.at(file.len()).into());
     };
     Ok(lists)
 }

@@ -11,54 +11,45 @@ ghost use Rattle.worked_examples.specs.TrayLift.{tray};
 #[cfg(test)]
 mod damaged;
 
-// The task file of the tray lift. Two stations lift a tray, left by move 0 and right by move 1. Fluent 2 is the load,
-// which falls where one side is lifted alone.
+// Two stations lift a tray, left by move 0 and right by move 1. Fluent 2 is the load, which falls where one side is
+// lifted alone.
+const TRAY_LIFT: [u8; 45] =
+    *b"\x01\x02\x03\x02\x02\x02\x03\x00\x03\x01\x03\x02\x04\x00\x05\x80\x07\x0a\x00\x07\x08\x81\x08\x02\x09\x81\x0a\x82\x04\x01\x05\x81\x07\x0a\x01\x07\x08\x80\x08\x02\x09\x80\x0a\x82\x0f";
+
+// The task file of the tray lift.
 pub fn tray_lift() -> [u8; 45]
     ensures { seen shown (form result) ≡ Ok tray }
 {
-    *b"\x01\x02\x03\x02\x02\x02\x03\x00\x03\x01\x03\x02\x04\x00\x05\x80\x07\x0a\x00\x07\x08\x81\x08\x02\x09\x81\x0a\x82\x04\x01\x05\x81\x07\x0a\x01\x07\x08\x80\x08\x02\x09\x80\x0a\x82\x0f"
+    TRAY_LIFT
 }
 
 #[cfg(test)]
 mod tests {
-    use crate::damaged::{COMMANDS, Case, EFFECTS, LISTS, OPERANDS, ORDER, SIZES};
-    use crate::tray_lift;
+    use crate::damaged::{COMMANDS, EFFECTS, LISTS, OPERANDS, ORDER, SIZES};
+    use crate::{TRAY_LIFT, tray_lift};
     use coupling::Written;
     use refusals::Fault;
     use sequencer::judge_joint;
     use std::alloc::Global;
-    use std::process::Abort;
     use std::test::Fail;
     use task::Task;
-
-    // Two stations lift a tray, left by move 0 and right by move 1. Fluent 2 is the load, which falls where one side
-    // is lifted alone.
-    const TRAY_LIFT: [u8; 45] = [
-        0x01, 0x02, 0x03, 0x02, 0x02, 0x02, 0x03, 0x00, 0x03, 0x01, 0x03, 0x02, 0x04, 0x00, 0x05,
-        0x80, 0x07, 0x0a, 0x00, 0x07, 0x08, 0x81, 0x08, 0x02, 0x09, 0x81, 0x0a, 0x82, 0x04, 0x01,
-        0x05, 0x81, 0x07, 0x0a, 0x01, 0x07, 0x08, 0x80, 0x08, 0x02, 0x09, 0x80, 0x0a, 0x82, 0x0f,
-    ];
 
     const NONE: u8 = 0xff;
 
     // A plan of steps for two stations.
     fn plan(heap: Global, steps: &[(u8, u8)]) -> Result<Vec<u8>, Fail> {
         let mut bytes = Vec::new(heap);
-        for (left, right) in steps {
-            bytes.push(0x31)?;
-            bytes.push(*left)?;
-            bytes.push(*right)?;
-            for _ in 0..14 {
-                bytes.push(NONE)?;
-            }
+        for &(left, right) in steps {
+            bytes.extend_from_slice(&[0x31, left, right])?;
+            bytes.extend_from_slice(&[NONE; 14])?;
         }
         Ok(bytes)
     }
 
-    // The refusal's number and place, or none where the plan solves.
-    fn refusal(verdict: Result<(), Fault>) -> Result<Option<(u8, usize)>, Fail> {
-        match verdict {
-            Ok(()) => Ok(None),
+    // The refusal's number and place, or none where the answer is a value.
+    fn refusal<T: Drop>(answer: Result<T, Fault>) -> Result<Option<(u8, usize)>, Fail> {
+        match answer {
+            Ok(_) => Ok(None),
             Err(Fault::Refused(e)) => Ok(Some((e.question.number(), e.place))),
             Err(Fault::Memory) => Err(Fail::new("no memory")),
         }
@@ -66,9 +57,8 @@ mod tests {
 
     // The verdict on a plan for the tray lift.
     fn lifted(heap: Global, steps: &[(u8, u8)]) -> Result<Option<(u8, usize)>, Fail> {
-        let task = match Task::read(heap, &TRAY_LIFT) {
-            Ok(task) => task,
-            Err(_) => return Err(Fail::new("the tray lift is refused")),
+        let Ok(task) = Task::read(heap, &TRAY_LIFT) else {
+            return Err(Fail::new("the tray lift is refused"));
         };
         let written = Written::new(heap, &task)?;
         let bytes = plan(heap, steps)?;
@@ -77,10 +67,7 @@ mod tests {
 
     // The refusal of a task file.
     fn read(heap: Global, file: &[u8]) -> Result<Option<(u8, usize)>, Fail> {
-        match Task::read(heap, file) {
-            Ok(_) => Ok(None),
-            Err(fault) => refusal(Err(fault)),
-        }
+        refusal(Task::read(heap, file))
     }
 
     #[test]
@@ -103,19 +90,12 @@ mod tests {
         Ok(())
     }
 
-    fn play(rt: &impl Abort, heap: Global, cases: &[Case]) -> Result<(), Fail> {
-        for (file, answer, why) in cases {
-            assert_eq!(rt; read(heap, *file)?, *answer, "{}", *why);
-        }
-        Ok(())
-    }
-
     #[test]
     fn damaged_tasks(rt: HostRuntime) -> Result<(), Fail> {
         let heap = rt.alloc();
         assert_eq!(rt; read(heap, &[])?, Some((2, 0)), "empty");
         assert_eq!(rt; read(heap, &[0x01, 0x02, 0x03])?, Some((2, 0)), "truncated");
-        assert_eq!(rt; read(heap, &TRAY_LIFT[0..44])?, Some((2, 44)), "no end");
+        assert_eq!(rt; read(heap, &TRAY_LIFT[..44])?, Some((2, 44)), "no end");
         assert_eq!(rt;
             read(heap, &[0x01, 0x01, 0x01, 0x01, 0x0b])?,
             Some((2, 4)),
@@ -134,12 +114,12 @@ mod tests {
     fn table_of_damaged_tasks(rt: HostRuntime) -> Result<(), Fail> {
         let heap = rt.alloc();
         assert_eq!(rt; read(heap, &tray_lift())?, None, "not damaged");
-        play(&rt, heap, &COMMANDS)?;
-        play(&rt, heap, &ORDER)?;
-        play(&rt, heap, &SIZES)?;
-        play(&rt, heap, &OPERANDS)?;
-        play(&rt, heap, &LISTS)?;
-        play(&rt, heap, &EFFECTS)
+        for cases in [COMMANDS, ORDER, SIZES, OPERANDS, LISTS, EFFECTS] {
+            for case in cases {
+                assert_eq!(rt; read(heap, case.file)?, case.refusal, "{}", case.why);
+            }
+        }
+        Ok(())
     }
 
     // A task of 64 moves, filled with needs and results up to the limit of its file.
@@ -176,10 +156,7 @@ mod tests {
     #[test]
     fn plans_at_their_limit(rt: HostRuntime) -> Result<(), Fail> {
         let heap = rt.alloc();
-        let mut steps = Vec::new(heap);
-        for _ in 0..256 {
-            steps.push((NONE, NONE))?;
-        }
+        let mut steps = vec![in heap; (NONE, NONE); 256]?;
         assert_eq!(rt; lifted(heap, &steps)?, Some((16, 256)), "256 steps");
         steps.push((NONE, NONE))?;
         assert_eq!(rt; lifted(heap, &steps)?, Some((1, 0)), "257 steps");
