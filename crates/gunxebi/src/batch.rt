@@ -1,7 +1,7 @@
 // Requests from standard input, answered on standard output line by line.
 use crate::ending::Trouble;
 use crate::flaw::Flaw;
-use crate::lines::{Line, read_line};
+use crate::lines::read_line;
 use crate::refused::InShort;
 use crate::verdict::judge_written;
 use crate::{hex, request};
@@ -35,18 +35,15 @@ impl From<Flaw> for Unsolved {
 impl fmt::Display for Unsolved {
     fn fmt<W: fmt::Write>(&self, f: &mut fmt::Formatter<W>) -> fmt::Result {
         match *self {
-            Unsolved::Refused(refusal) => {
-                let short = InShort(refusal);
-                write!(f, "{short}")
-            }
+            Unsolved::Refused(refusal) => write!(f, "{}", InShort(refusal)),
             Unsolved::Error(flaw) => write!(f, "error {flaw}"),
         }
     }
 }
 
 // Does the plan of a request solve its task?
-fn solve(heap: Global, line: &Line) -> Result<(), Unsolved> {
-    let request = request::read(line.bytes()?)?;
+fn solve(heap: Global, line: &[u8]) -> Result<(), Unsolved> {
+    let request = request::read(line)?;
     let task = hex::bytes(heap, request.task)?;
     let plan = hex::bytes(heap, request.plan)?;
     judge_written(heap, &task, &plan)?;
@@ -56,20 +53,16 @@ fn solve(heap: Global, line: &Line) -> Result<(), Unsolved> {
 // Answers every line. What waits is written whenever no more requests have been read.
 pub fn answer_all(rt: &HostRuntime) -> Result<(), Trouble> {
     let heap = rt.alloc();
-    let Ok(mut input) = BufReader::new(heap, rt.stdin()) else {
-        return Err(Trouble::Memory);
-    };
-    let Ok(mut output) = BufWriter::new(heap, rt.stdout()) else {
-        return Err(Trouble::Memory);
-    };
-    let mut line = Line::new(heap);
+    let mut input = BufReader::new(heap, rt.stdin()).map_err(|_| Trouble::Memory)?;
+    let mut output = BufWriter::new(heap, rt.stdout()).map_err(|_| Trouble::Memory)?;
     for _ in 0..u64::MAX {
-        match read_line(&mut input, &mut line) {
-            Ok(true) => {}
-            Ok(false) => break,
-            Err(e) => return Err(Trouble::UnreadableInput(e)),
-        }
-        match solve(heap, &line) {
+        let Some(line) = read_line(heap, &mut input).map_err(Trouble::UnreadableInput)? else {
+            break;
+        };
+        match line
+            .map_err(Unsolved::from)
+            .and_then(|line| solve(heap, &line))
+        {
             Ok(()) => writeln!(output, "solves")?,
             Err(unsolved) => writeln!(output, "{unsolved}")?,
         }

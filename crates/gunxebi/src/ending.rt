@@ -1,5 +1,6 @@
 // How the program ends.
 use std::alloc::AllocError;
+use std::process::ExitCode;
 use std::{fmt, io};
 
 // What a call came to that met no trouble.
@@ -8,6 +9,16 @@ pub enum Ended {
     Well,
     // A file or a plan was refused, and why has been printed.
     Refused,
+}
+
+// The status 1 says no more than what has been printed.
+impl From<Ended> for ExitCode {
+    fn from(ended: Ended) -> ExitCode {
+        match ended {
+            Ended::Well => ExitCode::SUCCESS,
+            Ended::Refused => ExitCode::FAILURE,
+        }
+    }
 }
 
 // What keeps the program from its work, in one line for the person who called it.

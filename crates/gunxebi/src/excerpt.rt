@@ -22,18 +22,14 @@ fn row_of(offset: usize) -> usize
 fn row_before(row: usize) -> Option<usize>
     ensures { MatchOption result (row < 16) (λ before. before + 16 ≡ row) }
 {
-    if row < ROW { None } else { Some(row - ROW) }
+    row.checked_sub(ROW)
 }
 
 // Where the row after another begins, if that is before the end of the file.
 fn row_after(row: usize, end: usize) -> Option<usize>
     ensures { MatchOption result (end ≤ row + 16) (λ after. (after ≡ row + 16) × (after < end)) }
 {
-    if row < end && ROW < end - row {
-        Some(row + ROW)
-    } else {
-        None
-    }
+    row.checked_add(ROW).filter(|after| *after < end)
 }
 
 // The column, counted from 0, of the first digit of the byte at an offset.
@@ -56,13 +52,8 @@ impl<'a> Row<'a> {
         ensures offset { result.offset ≡ offset }
         ensures bytes { result.bytes.now ≡ take 16 (drop offset file.now) }
     {
-        let bytes = if offset >= file.len() {
-            &[]
-        } else if ROW < file.len() - offset {
-            &file[offset..offset + ROW]
-        } else {
-            &file[offset..]
-        };
+        let rest = file.get(offset..).unwrap_or(&[]);
+        let bytes = rest.get(..ROW).unwrap_or(rest);
         Row { offset, bytes }
     }
 }

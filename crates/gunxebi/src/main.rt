@@ -10,12 +10,12 @@ mod ending;
 mod excerpt;
 mod files;
 mod flaw;
-mod full;
 mod hex;
 mod lines;
 mod refused;
 mod request;
 mod show;
+mod tasks;
 mod text;
 mod verdict;
 mod words;
@@ -75,8 +75,7 @@ fn run(rt: &HostRuntime) -> Result<Ended, Trouble> {
 // The status 1 says no more than what has been printed.
 fn main(rt: HostRuntime) -> ExitCode {
     match run(&rt) {
-        Ok(Ended::Well) => ExitCode::SUCCESS,
-        Ok(Ended::Refused) => ExitCode::FAILURE,
+        Ok(ended) => ExitCode::from(ended),
         Err(trouble) => {
             let _ = eprintln!(rt; "gunxebi: {trouble}");
             ExitCode::FAILURE

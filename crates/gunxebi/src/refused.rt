@@ -35,13 +35,6 @@ impl fmt::Display for Source {
     }
 }
 
-// What was asked and answered no, of a file or of the line.
-#[derive(Clone, Copy)]
-pub struct Asked {
-    pub refusal: Refusal,
-    pub source: Source,
-}
-
 // The words before and after the place of a refusal.
 fn around(question: Question) -> (&'static str, &'static str) {
     match question {
@@ -60,19 +53,19 @@ fn around(question: Question) -> (&'static str, &'static str) {
     }
 }
 
-impl fmt::Display for Asked {
+// What a move asks of the line or of the other moves of its step.
+#[derive(Clone, Copy)]
+pub enum Verb {
+    Needs,
+    Bars,
+}
+
+impl fmt::Display for Verb {
     fn fmt<W: fmt::Write>(&self, f: &mut fmt::Formatter<W>) -> fmt::Result {
-        let Refusal { question, place } = self.refusal;
-        let source = self.source;
-        let (before, after) = around(question);
-        f.write_str(before)?;
-        match (question, question.layer()) {
-            (Question::Limit, _) => write!(f, "{source}")?,
-            (Question::Goal, _) => write!(f, "{}", Count(place, "step"))?,
-            (_, Layer::Form) => write!(f, "at offset {place} of the {source}")?,
-            (_, Layer::Run) => write!(f, "step {place}")?,
-        }
-        f.write_str(after)
+        f.write_str(match *self {
+            Verb::Needs => "needs",
+            Verb::Bars => "bars",
+        })
     }
 }
 
@@ -88,28 +81,13 @@ pub enum Found {
     // The command of a task file at the place of the refusal.
     Command(Command),
     // The operand of a station is no move.
-    NoMove {
-        station: usize,
-        operand: u8,
-    },
+    NoMove { station: u8, operand: u8 },
     // The operand of a station is a move of another one.
-    Foreign {
-        station: usize,
-        a: u8,
-        own: u8,
-    },
+    Foreign { station: u8, a: u8, own: u8 },
     // A move needs what does not hold, or needs or bars other moves than the step's.
-    Move {
-        a: u8,
-        verb: &'static str,
-        what: List,
-    },
+    Move { a: u8, verb: Verb, what: List },
     // One move makes a fluent true that another makes false.
-    Torn {
-        fluent: u8,
-        by: u8,
-        but: u8,
-    },
+    Torn { fluent: u8, by: u8, but: u8 },
     // Goal literals do not hold.
     Goal(List),
 }
@@ -149,43 +127,57 @@ pub struct Reason {
 
 impl fmt::Display for Reason {
     fn fmt<W: fmt::Write>(&self, f: &mut fmt::Formatter<W>) -> fmt::Result {
-        let refusal = self.refusal;
-        let source = self.source;
-        let short = InShort(refusal);
-        let asked = Asked { refusal, source };
-        write!(f, "{short}: {asked}")?;
-        if let Some(found) = self.found {
+        let Reason {
+            refusal,
+            source,
+            found,
+        } = *self;
+        let Refusal { question, place } = refusal;
+        let (before, after) = around(question);
+        write!(f, "{}: {before}", InShort(refusal))?;
+        match (question, question.layer()) {
+            (Question::Limit, _) => write!(f, "{source}")?,
+            (Question::Goal, _) => write!(f, "{}", Count(place, "step"))?,
+            (_, Layer::Form) => write!(f, "at offset {place} of the {source}")?,
+            (_, Layer::Run) => write!(f, "step {place}")?,
+        }
+        f.write_str(after)?;
+        if let Some(found) = found {
             write!(f, "\nfound: {found}")?;
         }
         Ok(())
     }
 }
 
-// What to do about a refusal.
-pub fn hint(question: Question, source: Source) -> &'static str {
-    match (question, source) {
-        (Question::Limit, Source::Task) =>
-            "make the file shorter; a task file has at most 8,192 bytes",
-        (Question::Limit, Source::Plan) =>
-            "cut the plan in two; a plan has at most 256 steps, which are 4,352 bytes",
-        (Question::Command, Source::Task) =>
-            "look for an operand too many or too few further up, or for a missing END",
-        (Question::Command, Source::Plan) => "write 31 and sixteen operands for each step",
-        (Question::Order, _) =>
-            "compare with the order of commands in docs/FORMATS.md, and count the moves",
-        (Question::Range, Source::Task) => "compare the operands with SIZES; numbers begin at 0",
-        (Question::Range, Source::Plan) =>
-            "name a move that the task has, or FF for none; numbers begin at 0",
-        (Question::New, _) => "take out one of the two; the sign does not matter",
-        (Question::Effects, _) =>
-            "join effects that have the same conditions, or divide the move into two",
-        (Question::Station, _) => "put the move into the operand of its own station",
-        (Question::Needs, _) =>
-            "bring the need about in an earlier step; what the step itself does comes too late",
-        (Question::Present, _) =>
-            "put the needed move into the step, or take out the move that needs it",
-        (Question::Absent, _) => "put the two moves into different steps",
-        (Question::Agree, _) => "put the moves into different steps, or give an effect a condition",
-        (Question::Goal, _) => "add steps, or look for the step that made a goal literal false",
+impl Reason {
+    // What to do about it.
+    pub fn hint(&self) -> &'static str {
+        match (self.refusal.question, self.source) {
+            (Question::Limit, Source::Task) =>
+                "make the file shorter; a task file has at most 8,192 bytes",
+            (Question::Limit, Source::Plan) =>
+                "cut the plan in two; a plan has at most 256 steps, which are 4,352 bytes",
+            (Question::Command, Source::Task) =>
+                "look for an operand too many or too few further up, or for a missing END",
+            (Question::Command, Source::Plan) => "write 31 and sixteen operands for each step",
+            (Question::Order, _) =>
+                "compare with the order of commands in docs/FORMATS.md, and count the moves",
+            (Question::Range, Source::Task) =>
+                "compare the operands with SIZES; numbers begin at 0",
+            (Question::Range, Source::Plan) =>
+                "name a move that the task has, or FF for none; numbers begin at 0",
+            (Question::New, _) => "take out one of the two; the sign does not matter",
+            (Question::Effects, _) =>
+                "join effects that have the same conditions, or divide the move into two",
+            (Question::Station, _) => "put the move into the operand of its own station",
+            (Question::Needs, _) =>
+                "bring the need about in an earlier step; what the step itself does comes too late",
+            (Question::Present, _) =>
+                "put the needed move into the step, or take out the move that needs it",
+            (Question::Absent, _) => "put the two moves into different steps",
+            (Question::Agree, _) =>
+                "put the moves into different steps, or give an effect a condition",
+            (Question::Goal, _) => "add steps, or look for the step that made a goal literal false",
+        }
     }
 }

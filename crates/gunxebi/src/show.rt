@@ -6,13 +6,14 @@ ghost use Rattle.sets.specs.Members.{members};
 use crate::causes::{Stop, in_plan, in_task, on_line};
 use crate::ending::{Ended, Trouble};
 use crate::files::read_file;
-use crate::refused::{Asked, Found, InShort, Source, hint};
+use crate::refused::{Reason, Source};
+use crate::tasks::TaskInWords;
 use crate::verdict::judge_written;
-use crate::words::{Count, List, StepInWords, TaskInWords, plain};
+use crate::words::{Count, FLUENTS, List, StepInWords, plain};
 use coupling::Written;
 use moves::Literals;
 use plan::read_joint;
-use refusals::{Fault, Layer, Refusal};
+use refusals::{Fault, Layer};
 use sets::IndexSet;
 use step::{Step, step_from};
 use task::Task;
@@ -37,7 +38,7 @@ fn show_steps(
 ) -> Result<Stop, Trouble> {
     let mut line = task.start();
     let count = Count(steps.len(), "step");
-    let start = List::fluents(plain(line));
+    let start = List::new(FLUENTS, plain(line));
     println!(rt; "plan: {count}\n  true at the start: {start}")?;
     for (i, step) in steps.iter().enumerate() {
         let words = StepInWords(*step);
@@ -47,8 +48,8 @@ fn show_steps(
             println!(rt; "    refused")?;
             return Ok(Stop { line, moves });
         };
-        let changed = List::fluents(changes(line, after));
-        let holding = List::fluents(plain(after));
+        let changed = List::new(FLUENTS, changes(line, after));
+        let holding = List::new(FLUENTS, plain(after));
         println!(rt; "    changed: {changed}\n    true after: {holding}")?;
         line = after;
     }
@@ -57,20 +58,9 @@ fn show_steps(
 }
 
 // Says why a plan does not solve.
-fn refuse(
-    rt: &HostRuntime,
-    refusal: Refusal,
-    source: Source,
-    found: Option<Found>,
-) -> Result<Ended, Trouble> {
-    let short = InShort(refusal);
-    let asked = Asked { refusal, source };
-    let hint = hint(refusal.question, source);
-    println!(rt; "{short}: {asked}")?;
-    if let Some(found) = found {
-        println!(rt; "found: {found}")?;
-    }
-    println!(rt; "hint: {hint}")?;
+fn refuse(rt: &HostRuntime, reason: Reason) -> Result<Ended, Trouble> {
+    let hint = reason.hint();
+    println!(rt; "{reason}\nhint: {hint}")?;
     Ok(Ended::Refused)
 }
 
@@ -83,27 +73,34 @@ fn show_plan(
 ) -> Result<Ended, Trouble> {
     let heap = rt.alloc();
     let coupling = Written::new(heap, task)?;
-    let mut stop = Stop {
-        line: task.start(),
-        moves: IndexSet::empty(),
+    let stop = match read_joint(heap, task, file) {
+        Ok(steps) => show_steps(rt, task, &coupling, &steps)?,
+        Err(_) => Stop {
+            line: task.start(),
+            moves: IndexSet::empty(),
+        },
     };
-    if let Ok(steps) = read_joint(heap, task, file) {
-        stop = show_steps(rt, task, &coupling, &steps)?;
-    }
-    match verdict {
+    let refusal = match verdict {
         Ok(()) => {
             println!(rt; "solves: each step is allowed, and the goal is met at the end")?;
-            Ok(Ended::Well)
+            return Ok(Ended::Well);
         }
-        Err(Fault::Refused(refusal)) => match refusal.question.layer() {
-            Layer::Form => refuse(rt, refusal, Source::Plan, in_plan(task, file, refusal)),
-            Layer::Run => {
-                let found = on_line(task, &coupling, refusal.question, stop);
-                refuse(rt, refusal, Source::Plan, found)
-            }
+        Err(Fault::Refused(refusal)) => refusal,
+        Err(Fault::Memory) => return Err(Trouble::Memory),
+    };
+    let found = match refusal.question.layer() {
+        Layer::Form => in_plan(task, file, refusal),
+        Layer::Run => on_line(task, &coupling, refusal.question, stop),
+    };
+    let source = Source::Plan;
+    refuse(
+        rt,
+        Reason {
+            refusal,
+            source,
+            found,
         },
-        Err(Fault::Memory) => Err(Trouble::Memory),
-    }
+    )
 }
 
 // Shows the verdict where there is no task to show.
@@ -112,12 +109,19 @@ fn show_unread(
     file: &[u8],
     verdict: Result<(), Fault>,
 ) -> Result<Ended, Trouble> {
-    match verdict {
-        Err(Fault::Refused(refusal)) => {
-            refuse(rt, refusal, Source::Task, in_task(file, refusal))
-        }
-        _ => Err(Trouble::Memory),
-    }
+    let Err(Fault::Refused(refusal)) = verdict else {
+        return Err(Trouble::Memory);
+    };
+    let source = Source::Task;
+    let found = in_task(file, refusal);
+    refuse(
+        rt,
+        Reason {
+            refusal,
+            source,
+            found,
+        },
+    )
 }
 
 // Judges the plan in one file for the task in another, and shows both.
@@ -126,12 +130,10 @@ pub fn judge(rt: &HostRuntime, task_path: &str, plan_path: &str) -> Result<Ended
     let task_file = read_file(rt, task_path)?;
     let plan_file = read_file(rt, plan_path)?;
     let verdict = judge_written(heap, &task_file, &plan_file);
-    match Task::read(heap, &task_file) {
-        Ok(task) => {
-            let words = TaskInWords(&task);
-            print!(rt; "{words}")?;
-            show_plan(rt, &task, &plan_file, verdict)
-        }
-        Err(_) => show_unread(rt, &task_file, verdict),
-    }
+    let Ok(task) = Task::read(heap, &task_file) else {
+        return show_unread(rt, &task_file, verdict);
+    };
+    let words = TaskInWords::short(&task);
+    print!(rt; "{words}")?;
+    show_plan(rt, &task, &plan_file, verdict)
 }
