@@ -19,18 +19,17 @@ pub fn read(rt: &HostRuntime) -> Result<Command, Trouble> {
     let Some(word) = words.next() else {
         return Ok(Command::Example);
     };
-    let command = match (word.as_str(), words.next(), words.next(), words.next()) {
-        ("show", Some(task), None, None) => Command::Show { task },
-        ("show", ..) => return Err(Trouble::WrongArguments("gunxebi show TASK")),
-        ("check", Some(task), None, None) => Command::Check { task },
-        ("check", ..) => return Err(Trouble::WrongArguments("gunxebi check TASK")),
-        ("judge", Some(task), Some(plan), None) => Command::Judge { task, plan },
-        ("judge", ..) => return Err(Trouble::WrongArguments("gunxebi judge TASK PLAN")),
-        ("batch", None, None, None) => Command::Batch,
-        ("batch", ..) => return Err(Trouble::WrongArguments("gunxebi batch")),
-        ("help" | "--help" | "-h", None, None, None) => Command::Help,
-        ("help" | "--help" | "-h", ..) => return Err(Trouble::WrongArguments("gunxebi help")),
-        _ => return Err(Trouble::UnknownCommand(word)),
-    };
-    Ok(command)
+    match (word.as_str(), words.next(), words.next(), words.next()) {
+        ("show", Some(task), None, None) => Ok(Command::Show { task }),
+        ("show", ..) => Err(Trouble::WrongArguments("gunxebi show TASK")),
+        ("check", Some(task), None, None) => Ok(Command::Check { task }),
+        ("check", ..) => Err(Trouble::WrongArguments("gunxebi check TASK")),
+        ("judge", Some(task), Some(plan), None) => Ok(Command::Judge { task, plan }),
+        ("judge", ..) => Err(Trouble::WrongArguments("gunxebi judge TASK PLAN")),
+        ("batch", None, None, None) => Ok(Command::Batch),
+        ("batch", ..) => Err(Trouble::WrongArguments("gunxebi batch")),
+        ("help" | "--help" | "-h", None, None, None) => Ok(Command::Help),
+        ("help" | "--help" | "-h", ..) => Err(Trouble::WrongArguments("gunxebi help")),
+        _ => Err(Trouble::UnknownCommand(word)),
+    }
 }

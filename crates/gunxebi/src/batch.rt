@@ -1,7 +1,7 @@
 // Requests from standard input, answered on standard output line by line.
 use crate::ending::Trouble;
 use crate::flaw::Flaw;
-use crate::lines::read_line;
+use crate::lines::{Line, read_line};
 use crate::refused::InShort;
 use crate::verdict::judge_written;
 use crate::{hex, request};
@@ -42,8 +42,9 @@ impl fmt::Display for Unsolved {
 }
 
 // Does the plan of a request solve its task?
-fn solve(heap: Global, line: &[u8]) -> Result<(), Unsolved> {
-    let request = request::read(line)?;
+fn solve(heap: Global, line: Line) -> Result<(), Unsolved> {
+    let line = line?;
+    let request = request::read(&line)?;
     let task = hex::bytes(heap, request.task)?;
     let plan = hex::bytes(heap, request.plan)?;
     judge_written(heap, &task, &plan)?;
@@ -59,10 +60,7 @@ pub fn answer_all(rt: &HostRuntime) -> Result<(), Trouble> {
         let Some(line) = read_line(heap, &mut input).map_err(Trouble::UnreadableInput)? else {
             break;
         };
-        match line
-            .map_err(Unsolved::from)
-            .and_then(|line| solve(heap, &line))
-        {
+        match solve(heap, line) {
             Ok(()) => writeln!(output, "solves")?,
             Err(unsolved) => writeln!(output, "{unsolved}")?,
         }

@@ -36,13 +36,9 @@ fn unmet(literals: Literals, set: IndexSet) -> Literals
 fn moves_where<F: Fn(u8) -> bool>(task: &Task, test: F) -> IndexSet
     requires { F.IsAlwaysCallable test }
 {
-    let mut all = IndexSet::empty();
-    for a in 0..task.moves() {
-        if test(a) {
-            all = all.insert(a);
-        }
-    }
-    all
+    (0..task.moves())
+        .filter(|a| test(*a))
+        .fold(IndexSet::empty(), |all, a| all.insert(a))
 }
 
 // The first move of a step that passes a test.

@@ -4,7 +4,7 @@ ghost use Rattle.std.specs.Prelude.{◌≡◌, ◌+◌, ◌*◌, ◌/◌, ◌%�
 use std::fmt;
 
 // The bytes of a row.
-const ROW: usize = 16;
+pub const ROW: usize = 16;
 
 // What a row has before its first byte, and for each byte: "  0016  " and "0F ".
 const MARGIN: usize = 8;

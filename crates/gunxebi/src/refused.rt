@@ -35,21 +35,18 @@ impl fmt::Display for Source {
     }
 }
 
-// The words before and after the place of a refusal.
-fn around(question: Question) -> (&'static str, &'static str) {
-    match question {
-        Question::Limit => ("the ", " has more bytes than its limit"),
-        Question::Command => ("no command with all its operands stands ", ""),
-        Question::Order => ("the command ", " is out of order"),
-        Question::Range => ("an operand of the command ", " is out of range"),
-        Question::New => ("the fluent or move ", " is in its list already"),
-        Question::Effects => ("the EFFECT ", " is the ninth of its move"),
-        Question::Station => ("the STEP ", " has a move of another station"),
-        Question::Needs => ("the needs of a move of ", " do not hold"),
-        Question::Present => ("a move of ", " needs one that is not in it"),
-        Question::Absent => ("a move of ", " bars one that is in it"),
-        Question::Agree => ("the results of ", " do not agree"),
-        Question::Goal => ("the goal is not met after ", ""),
+// Where a question was asked: "at offset 3 of the task file" or "step 3".
+#[derive(Clone, Copy)]
+struct Place(Refusal, Source);
+
+impl fmt::Display for Place {
+    fn fmt<W: fmt::Write>(&self, f: &mut fmt::Formatter<W>) -> fmt::Result {
+        let Place(refusal, source) = *self;
+        let place = refusal.place;
+        match refusal.question.layer() {
+            Layer::Form => write!(f, "at offset {place} of the {source}"),
+            Layer::Run => write!(f, "step {place}"),
+        }
     }
 }
 
@@ -125,31 +122,30 @@ pub struct Reason {
     pub found: Option<Found>,
 }
 
-impl fmt::Display for Reason {
-    fn fmt<W: fmt::Write>(&self, f: &mut fmt::Formatter<W>) -> fmt::Result {
-        let Reason {
-            refusal,
-            source,
-            found,
-        } = *self;
-        let Refusal { question, place } = refusal;
-        let (before, after) = around(question);
-        write!(f, "{}: {before}", InShort(refusal))?;
-        match (question, question.layer()) {
-            (Question::Limit, _) => write!(f, "{source}")?,
-            (Question::Goal, _) => write!(f, "{}", Count(place, "step"))?,
-            (_, Layer::Form) => write!(f, "at offset {place} of the {source}")?,
-            (_, Layer::Run) => write!(f, "step {place}")?,
-        }
-        f.write_str(after)?;
-        if let Some(found) = found {
-            write!(f, "\nfound: {found}")?;
-        }
-        Ok(())
-    }
-}
-
 impl Reason {
+    // Writes what was asked and answered no, of a file or of the line.
+    fn write_asked<W: fmt::Write>(&self, f: &mut fmt::Formatter<W>) -> fmt::Result {
+        let source = self.source;
+        let place = Place(self.refusal, source);
+        match self.refusal.question {
+            Question::Limit => write!(f, "the {source} has more bytes than its limit"),
+            Question::Command => { write!(f, "no command with all its operands stands {place}") }
+            Question::Order => write!(f, "the command {place} is out of order"),
+            Question::Range => write!(f, "an operand of the command {place} is out of range"),
+            Question::New => write!(f, "the fluent or move {place} is in its list already"),
+            Question::Effects => write!(f, "the EFFECT {place} is the ninth of its move"),
+            Question::Station => write!(f, "the STEP {place} has a move of another station"),
+            Question::Needs => write!(f, "the needs of a move of {place} do not hold"),
+            Question::Present => write!(f, "a move of {place} needs one that is not in it"),
+            Question::Absent => write!(f, "a move of {place} bars one that is in it"),
+            Question::Agree => write!(f, "the results of {place} do not agree"),
+            Question::Goal => {
+                let steps = Count(self.refusal.place, "step");
+                write!(f, "the goal is not met after {steps}")
+            }
+        }
+    }
+
     // What to do about it.
     pub fn hint(&self) -> &'static str {
         match (self.refusal.question, self.source) {
@@ -179,5 +175,16 @@ impl Reason {
                 "put the moves into different steps, or give an effect a condition",
             (Question::Goal, _) => "add steps, or look for the step that made a goal literal false",
         }
+    }
+}
+
+impl fmt::Display for Reason {
+    fn fmt<W: fmt::Write>(&self, f: &mut fmt::Formatter<W>) -> fmt::Result {
+        write!(f, "{}: ", InShort(self.refusal))?;
+        self.write_asked(f)?;
+        if let Some(found) = self.found {
+            write!(f, "\nfound: {found}")?;
+        }
+        Ok(())
     }
 }

@@ -178,12 +178,10 @@ impl<'a> fmt::Display for TaskInWords<'a> {
             "task: {sizes}\n  {}: {start}\n  goal: {goal}\n",
             style.start
         )?;
-        for a in 0..task.moves() {
-            if let Some(one) = task.get(a) {
-                let station = one.station;
-                let words = MoveInWords { one, style };
-                write!(f, "  move {a} of station {station}\n{words}")?;
-            }
+        for (a, one) in (0..task.moves()).filter_map(|a| task.get(a)).enumerate() {
+            let station = one.station;
+            let words = MoveInWords { one, style };
+            write!(f, "  move {a} of station {station}\n{words}")?;
         }
         Ok(())
     }
