@@ -7,14 +7,16 @@ use crate::verdict::judge_written;
 use crate::{hex, request};
 use refusals::{Fault, Refusal};
 use std::alloc::Global;
-use std::fmt;
 use std::io::{BufReader, BufWriter, Write};
+use thiserror::Error;
 
 // Why a request is not answered by 'solves'.
-#[derive(Clone, Copy)]
+#[derive(Clone, Copy, Debug, Error)]
 enum Unsolved {
+    #[error("{short}", short = InShort(*.0))]
     Refused(Refusal),
-    Error(Flaw),
+    #[error("error {0}")]
+    Error(#[from] Flaw),
 }
 
 impl From<Fault> for Unsolved {
@@ -22,21 +24,6 @@ impl From<Fault> for Unsolved {
         match fault {
             Fault::Refused(refusal) => Unsolved::Refused(refusal),
             Fault::Memory => Unsolved::Error(Flaw::Memory),
-        }
-    }
-}
-
-impl From<Flaw> for Unsolved {
-    fn from(flaw: Flaw) -> Unsolved {
-        Unsolved::Error(flaw)
-    }
-}
-
-impl fmt::Display for Unsolved {
-    fn fmt<W: fmt::Write>(&self, f: &mut fmt::Formatter<W>) -> fmt::Result {
-        match *self {
-            Unsolved::Refused(refusal) => write!(f, "{}", InShort(refusal)),
-            Unsolved::Error(flaw) => write!(f, "error {flaw}"),
         }
     }
 }

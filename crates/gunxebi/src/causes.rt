@@ -9,7 +9,7 @@ use coupling::Coupling;
 use moves::Literals;
 use refusals::{Question, Refusal};
 use sets::IndexSet;
-use step::{Step, clashes, joint_changes, lacks};
+use step::{Step, joint_changes};
 use task::Task;
 use task_command::next;
 
@@ -56,21 +56,33 @@ fn unready(task: &Task, stop: Stop) -> Option<Found> {
     Some(Found::Move { a, verb, what })
 }
 
+// The first move of a step that stands in a relation to moves of the task, and those moves.
+fn first_related<F: Fn(u8, u8) -> bool>(
+    task: &Task,
+    moves: IndexSet,
+    related: F,
+) -> Option<(u8, IndexSet)>
+    requires { F.IsAlwaysCallable related }
+{
+    let a = first_move(task, moves, |a| (0..task.moves()).any(|b| related(a, b)))?;
+    Some((a, moves_where(task, |b| related(a, b))))
+}
+
 // The first move of a step that needs others than are in it.
 fn missing<C: Coupling>(task: &Task, coupling: &C, moves: IndexSet) -> Option<Found> {
-    let a = first_move(task, moves, |a| lacks(task, coupling, moves, a))?;
-    let others = moves_where(task, |b| coupling.needs(a, b) && !moves.contains(b));
-    let what = List::new(MOVES, plain(others));
+    let is_missing = |a, b| coupling.needs(a, b) && !moves.contains(b);
+    let (a, others) = first_related(task, moves, is_missing)?;
     let verb = Verb::Needs;
+    let what = List::new(MOVES, plain(others));
     Some(Found::Move { a, verb, what })
 }
 
 // The first move of a step that bars some that are in it.
 fn barred<C: Coupling>(task: &Task, coupling: &C, moves: IndexSet) -> Option<Found> {
-    let a = first_move(task, moves, |a| clashes(task, coupling, moves, a))?;
-    let others = moves_where(task, |b| coupling.bars(a, b) && moves.contains(b));
-    let what = List::new(MOVES, plain(others));
+    let is_barred = |a, b| coupling.bars(a, b) && moves.contains(b);
+    let (a, others) = first_related(task, moves, is_barred)?;
     let verb = Verb::Bars;
+    let what = List::new(MOVES, plain(others));
     Some(Found::Move { a, verb, what })
 }
 
@@ -80,16 +92,9 @@ fn torn(task: &Task, stop: Stop) -> Option<Found> {
     let changes = joint_changes(task, line, moves);
     let both = changes.made.intersection(changes.unmade);
     let fluent = (0..task.fluents()).find(|k| both.contains(*k))?;
-    let by = first_move(
-        task,
-        moves,
-        |a| task.results(a, line, moves).plain.contains(fluent),
-    )?;
-    let but = first_move(
-        task,
-        moves,
-        |a| task.results(a, line, moves).negated.contains(fluent),
-    )?;
+    let results = |a| task.results(a, line, moves);
+    let by = first_move(task, moves, |a| results(a).plain.contains(fluent))?;
+    let but = first_move(task, moves, |a| results(a).negated.contains(fluent))?;
     Some(Found::Torn { fluent, by, but })
 }
 

@@ -1,5 +1,5 @@
 // Why a request has no verdict.
-use std::alloc::{AllocError, AllocFailed};
+use std::alloc::AllocError;
 use thiserror::Error;
 
 #[derive(Clone, Copy, Debug, Error)]
@@ -28,13 +28,6 @@ pub enum Flaw {
 
 impl From<AllocError> for Flaw {
     fn from(_e: AllocError) -> Flaw {
-        Flaw::Memory
-    }
-}
-
-// Where a `?` stands after a push that found no memory.
-impl<T: Drop> From<AllocFailed<T>> for Flaw {
-    fn from(_e: AllocFailed<T>) -> Flaw {
         Flaw::Memory
     }
 }

@@ -28,10 +28,10 @@ pub enum Source {
 
 impl fmt::Display for Source {
     fn fmt<W: fmt::Write>(&self, f: &mut fmt::Formatter<W>) -> fmt::Result {
-        match *self {
-            Source::Task => f.write_str("task file"),
-            Source::Plan => f.write_str("plan file"),
-        }
+        f.write_str(match *self {
+            Source::Task => "task file",
+            Source::Plan => "plan file",
+        })
     }
 }
 
@@ -129,7 +129,7 @@ impl Reason {
         let place = Place(self.refusal, source);
         match self.refusal.question {
             Question::Limit => write!(f, "the {source} has more bytes than its limit"),
-            Question::Command => { write!(f, "no command with all its operands stands {place}") }
+            Question::Command => write!(f, "no command with all its operands stands {place}"),
             Question::Order => write!(f, "the command {place} is out of order"),
             Question::Range => write!(f, "an operand of the command {place} is out of range"),
             Question::New => write!(f, "the fluent or move {place} is in its list already"),

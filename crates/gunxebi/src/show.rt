@@ -93,14 +93,12 @@ fn show_plan(
         Layer::Run => on_line(task, &coupling, refusal.question, stop),
     };
     let source = Source::Plan;
-    refuse(
-        rt,
-        Reason {
-            refusal,
-            source,
-            found,
-        },
-    )
+    let reason = Reason {
+        refusal,
+        source,
+        found,
+    };
+    refuse(rt, reason)
 }
 
 // Shows the verdict where there is no task to show.
@@ -114,14 +112,12 @@ fn show_unread(
     };
     let source = Source::Task;
     let found = in_task(file, refusal);
-    refuse(
-        rt,
-        Reason {
-            refusal,
-            source,
-            found,
-        },
-    )
+    let reason = Reason {
+        refusal,
+        source,
+        found,
+    };
+    refuse(rt, reason)
 }
 
 // Judges the plan in one file for the task in another, and shows both.

@@ -84,7 +84,9 @@ pub struct List {
 }
 
 impl List {
-    pub fn new(terms: Terms, literals: Literals) -> List {
+    pub fn new(terms: Terms, literals: Literals) -> List
+        ensures { result.literals ≡ literals }
+    {
         List { terms, literals }
     }
 
