@@ -14,8 +14,8 @@ pub enum Command {
 
 // The command that the program's arguments name.
 pub fn read(rt: &HostRuntime) -> Result<Command, Trouble> {
-    let mut words = env::args(rt).map_err(Trouble::UnreadableArguments)?;
-    let _program = words.next();
+    // The first is the program's name.
+    let mut words = env::args(rt).map_err(Trouble::UnreadableArguments)?.skip(1);
     let Some(word) = words.next() else {
         return Ok(Command::Example);
     };

@@ -57,9 +57,9 @@ fn run(rt: &HostRuntime) -> Result<Ended, Trouble> {
             println!(rt; "{USAGE}\nThe tray lift: gunxebi judge {TASK} {PLAN}\n")?;
             judge(rt, TASK, PLAN)
         }
-        Command::Show { task } => show_task(rt, task.as_str()),
-        Command::Check { task } => check_task(rt, task.as_str()),
-        Command::Judge { task, plan } => judge(rt, task.as_str(), plan.as_str()),
+        Command::Show { task } => show_task(rt, &task),
+        Command::Check { task } => check_task(rt, &task),
+        Command::Judge { task, plan } => judge(rt, &task, &plan),
         Command::Batch => {
             answer_all(rt)?;
             Ok(Ended::Well)

@@ -93,8 +93,8 @@ impl List {
     pub fn is_empty(&self) -> bool
         ensures { result ≡ not (any 128 (either (members self.now.literals.plain) (members self.now.literals.negated))) }
     {
-        let literals = self.literals;
-        !literals.plain.union(literals.negated).any_below(128)
+        let Literals { plain, negated } = self.literals;
+        !plain.union(negated).any_below(128)
     }
 
     // What stands before a number of the list.
