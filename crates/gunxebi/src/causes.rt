@@ -13,14 +13,6 @@ use step::{Step, joint_changes};
 use task::Task;
 use task_command::next;
 
-// Where the steps of a plan end: the fluents that are true there, and the moves of the step that is refused there, if
-// one is.
-#[derive(Clone, Copy)]
-pub struct Stop {
-    pub line: IndexSet,
-    pub moves: IndexSet,
-}
-
 // The literals that do not hold in a set.
 fn unmet(literals: Literals, set: IndexSet) -> Literals
     ensures plain { members result.plain ≡ minus (members literals.plain) (members set) }
@@ -32,89 +24,89 @@ fn unmet(literals: Literals, set: IndexSet) -> Literals
     }
 }
 
-// The moves of a task that pass a test.
-fn moves_where<F: Fn(u8) -> bool>(task: &Task, test: F) -> IndexSet
-    requires { F.IsAlwaysCallable test }
-{
-    (0..task.moves())
-        .filter(|a| test(*a))
-        .fold(IndexSet::empty(), |all, a| all.insert(a))
+// Where the steps of a plan for a task end: the fluents that are true there, and the moves of the step that is refused
+// there, if one is.
+#[derive(Drop)]
+pub struct Stop<'a> {
+    pub task: &'a Task,
+    pub line: IndexSet,
+    pub moves: IndexSet,
 }
 
-// The first move of a step that passes a test.
-fn first_move<F: Fn(u8) -> bool>(task: &Task, moves: IndexSet, test: F) -> Option<u8>
-    requires { F.IsAlwaysCallable test }
-{
-    (0..task.moves()).find(|a| moves.contains(*a) && test(*a))
-}
+impl Stop<'_> {
+    // The moves of the task that pass a test.
+    fn moves_where<F: Fn(u8) -> bool>(&self, test: F) -> IndexSet
+        requires { F.IsAlwaysCallable test }
+    {
+        (0..self.task.moves())
+            .filter(|a| test(*a))
+            .fold(IndexSet::empty(), |all, a| all.insert(a))
+    }
 
-// The first move of a step whose needs do not hold.
-fn unready(task: &Task, stop: Stop) -> Option<Found> {
-    let a = first_move(task, stop.moves, |a| !task.ready(a, stop.line))?;
-    let what = List::new(FLUENTS, unmet(task.get(a)?.needs, stop.line));
-    let verb = Verb::Needs;
-    Some(Found::Move { a, verb, what })
-}
+    // The first move of the step that passes a test.
+    fn first_move<F: Fn(u8) -> bool>(&self, test: F) -> Option<u8>
+        requires { F.IsAlwaysCallable test }
+    {
+        (0..self.task.moves()).find(|a| self.moves.contains(*a) && test(*a))
+    }
 
-// The first move of a step that stands in a relation to moves of the task, and those moves.
-fn first_related<F: Fn(u8, u8) -> bool>(
-    task: &Task,
-    moves: IndexSet,
-    related: F,
-) -> Option<(u8, IndexSet)>
-    requires { F.IsAlwaysCallable related }
-{
-    let a = first_move(task, moves, |a| (0..task.moves()).any(|b| related(a, b)))?;
-    Some((a, moves_where(task, |b| related(a, b))))
-}
+    // The first move of the step that stands in a relation to moves of the task, and those moves.
+    fn first_related<F: Fn(u8, u8) -> bool>(&self, related: F) -> Option<(u8, IndexSet)>
+        requires { F.IsAlwaysCallable related }
+    {
+        let a = self.first_move(|a| (0..self.task.moves()).any(|b| related(a, b)))?;
+        Some((a, self.moves_where(|b| related(a, b))))
+    }
 
-// The first move of a step that needs others than are in it.
-fn missing<C: Coupling>(task: &Task, coupling: &C, moves: IndexSet) -> Option<Found> {
-    let is_missing = |a, b| coupling.needs(a, b) && !moves.contains(b);
-    let (a, others) = first_related(task, moves, is_missing)?;
-    let verb = Verb::Needs;
-    let what = List::new(MOVES, plain(others));
-    Some(Found::Move { a, verb, what })
-}
+    // The first move of the step whose needs do not hold.
+    fn unready(&self) -> Option<Found> {
+        let a = self.first_move(|a| !self.task.ready(a, self.line))?;
+        let verb = Verb::Needs;
+        let what = List::new(FLUENTS, unmet(self.task.get(a)?.needs, self.line));
+        Some(Found::Move { a, verb, what })
+    }
 
-// The first move of a step that bars some that are in it.
-fn barred<C: Coupling>(task: &Task, coupling: &C, moves: IndexSet) -> Option<Found> {
-    let is_barred = |a, b| coupling.bars(a, b) && moves.contains(b);
-    let (a, others) = first_related(task, moves, is_barred)?;
-    let verb = Verb::Bars;
-    let what = List::new(MOVES, plain(others));
-    Some(Found::Move { a, verb, what })
-}
+    // The first move of the step that needs others than are in it.
+    fn missing<C: Coupling>(&self, coupling: &C) -> Option<Found> {
+        let (a, others) = self.first_related(|a, b| coupling.needs(a, b)
+            && !self.moves.contains(b))?;
+        let verb = Verb::Needs;
+        let what = List::new(MOVES, plain(others));
+        Some(Found::Move { a, verb, what })
+    }
 
-// The first fluent that the moves of a step make true and false.
-fn torn(task: &Task, stop: Stop) -> Option<Found> {
-    let Stop { line, moves } = stop;
-    let changes = joint_changes(task, line, moves);
-    let both = changes.made.intersection(changes.unmade);
-    let fluent = (0..task.fluents()).find(|k| both.contains(*k))?;
-    let results = |a| task.results(a, line, moves);
-    let by = first_move(task, moves, |a| results(a).plain.contains(fluent))?;
-    let but = first_move(task, moves, |a| results(a).negated.contains(fluent))?;
-    Some(Found::Torn { fluent, by, but })
-}
+    // The first move of the step that bars some that are in it.
+    fn barred<C: Coupling>(&self, coupling: &C) -> Option<Found> {
+        let (a, others) = self.first_related(|a, b| coupling.bars(a, b) && self.moves.contains(b))?;
+        let verb = Verb::Bars;
+        let what = List::new(MOVES, plain(others));
+        Some(Found::Move { a, verb, what })
+    }
 
-// What a question finds where the steps of a plan end.
-pub fn on_line<C: Coupling>(
-    task: &Task,
-    coupling: &C,
-    question: Question,
-    stop: Stop,
-) -> Option<Found> {
-    match question {
-        Question::Needs => unready(task, stop),
-        Question::Present => missing(task, coupling, stop.moves),
-        Question::Absent => barred(task, coupling, stop.moves),
-        Question::Agree => torn(task, stop),
-        Question::Goal => {
-            let unmet = List::new(FLUENTS, unmet(task.goal(), stop.line));
-            Some(Found::Goal(unmet))
+    // The first fluent that the moves of the step make true and false.
+    fn torn(&self) -> Option<Found> {
+        let changes = joint_changes(self.task, self.line, self.moves);
+        let both = changes.made.intersection(changes.unmade);
+        let fluent = (0..self.task.fluents()).find(|k| both.contains(*k))?;
+        let results = |a| self.task.results(a, self.line, self.moves);
+        let by = self.first_move(|a| results(a).plain.contains(fluent))?;
+        let but = self.first_move(|a| results(a).negated.contains(fluent))?;
+        Some(Found::Torn { fluent, by, but })
+    }
+
+    // What a question finds there.
+    pub fn found<C: Coupling>(&self, coupling: &C, question: Question) -> Option<Found> {
+        match question {
+            Question::Needs => self.unready(),
+            Question::Present => self.missing(coupling),
+            Question::Absent => self.barred(coupling),
+            Question::Agree => self.torn(),
+            Question::Goal => {
+                let unmet = List::new(FLUENTS, unmet(self.task.goal(), self.line));
+                Some(Found::Goal(unmet))
+            }
+            _ => None,
         }
-        _ => None,
     }
 }
 

@@ -58,7 +58,7 @@ impl<'a> Row<'a> {
     }
 }
 
-impl<'a> fmt::Display for Row<'a> {
+impl fmt::Display for Row<'_> {
     fn fmt<W: fmt::Write>(&self, f: &mut fmt::Formatter<W>) -> fmt::Result {
         let offset = self.offset;
         write!(f, "  {offset:04}")?;
@@ -78,7 +78,7 @@ pub struct Excerpt<'a> {
     pub offset: usize,
 }
 
-impl<'a> fmt::Display for Excerpt<'a> {
+impl fmt::Display for Excerpt<'_> {
     fn fmt<W: fmt::Write>(&self, f: &mut fmt::Formatter<W>) -> fmt::Result {
         let Excerpt { file, offset } = *self;
         let row = row_of(offset);

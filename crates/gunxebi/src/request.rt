@@ -10,7 +10,7 @@ pub struct Request<'a> {
 }
 
 // The request of a line. Some are known by name, and not answered yet.
-pub fn read<'a>(line: &'a [u8]) -> Result<Request<'a>, Flaw> {
+pub fn read(line: &[u8]) -> Result<Request<'_>, Flaw> {
     if line.is_empty() {
         return Err(Flaw::EmptyLine);
     }
@@ -29,7 +29,7 @@ pub fn read<'a>(line: &'a [u8]) -> Result<Request<'a>, Flaw> {
     }
 }
 
-fn judge_joint<'a>(fields: Option<&'a [u8]>) -> Result<Request<'a>, Flaw> {
+fn judge_joint(fields: Option<&[u8]>) -> Result<Request<'_>, Flaw> {
     let mut fields = fields.ok_or(Flaw::Fields)?.split(|b| *b == b' ');
     match (fields.next(), fields.next(), fields.next(), fields.next()) {
         (Some(coupling), Some(task), Some(plan), None) => {

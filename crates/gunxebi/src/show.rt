@@ -3,7 +3,7 @@ ghost use Rattle.std.specs.Prelude.{◌≡◌};
 ghost use Rattle.model.specs.Sets.{minus};
 ghost use Rattle.sets.specs.Members.{members};
 
-use crate::causes::{Stop, in_plan, in_task, on_line};
+use crate::causes::{Stop, in_plan, in_task};
 use crate::ending::{Ended, Trouble};
 use crate::files::read_file;
 use crate::refused::{Reason, Source};
@@ -30,12 +30,12 @@ fn changes(before: IndexSet, after: IndexSet) -> Literals
 }
 
 // Shows the steps as far as they are allowed.
-fn show_steps(
+fn show_steps<'a>(
     rt: &HostRuntime,
-    task: &Task,
+    task: &'a Task,
     coupling: &Written,
     steps: &[Step],
-) -> Result<Stop, Trouble> {
+) -> Result<Stop<'a>, Trouble> {
     let mut line = task.start();
     let count = Count(steps.len(), "step");
     let start = List::new(FLUENTS, plain(line));
@@ -46,7 +46,7 @@ fn show_steps(
         let moves = step.moves();
         let Ok(after) = step_from(task, coupling, line, moves) else {
             println!(rt; "    refused")?;
-            return Ok(Stop { line, moves });
+            return Ok(Stop { task, line, moves });
         };
         let changed = List::new(FLUENTS, changes(line, after));
         let holding = List::new(FLUENTS, plain(after));
@@ -54,7 +54,7 @@ fn show_steps(
         line = after;
     }
     let moves = IndexSet::empty();
-    Ok(Stop { line, moves })
+    Ok(Stop { task, line, moves })
 }
 
 // Says why a plan does not solve.
@@ -76,6 +76,7 @@ fn show_plan(
     let stop = match read_joint(heap, task, file) {
         Ok(steps) => show_steps(rt, task, &coupling, &steps)?,
         Err(_) => Stop {
+            task,
             line: task.start(),
             moves: IndexSet::empty(),
         },
@@ -90,7 +91,7 @@ fn show_plan(
     };
     let found = match refusal.question.layer() {
         Layer::Form => in_plan(task, file, refusal),
-        Layer::Run => on_line(task, &coupling, refusal.question, stop),
+        Layer::Run => stop.found(&coupling, refusal.question),
     };
     let source = Source::Plan;
     let reason = Reason {

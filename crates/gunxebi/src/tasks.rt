@@ -86,7 +86,7 @@ impl<'a> Sizes<'a> {
     }
 }
 
-impl<'a> fmt::Display for Sizes<'a> {
+impl fmt::Display for Sizes<'_> {
     fn fmt<W: fmt::Write>(&self, f: &mut fmt::Formatter<W>) -> fmt::Result {
         let is_numbered = self.style.is_numbered;
         let size = |n, thing| Size {
@@ -130,7 +130,7 @@ struct MoveInWords<'a> {
     style: Style,
 }
 
-impl<'a> fmt::Display for MoveInWords<'a> {
+impl fmt::Display for MoveInWords<'_> {
     fn fmt<W: fmt::Write>(&self, f: &mut fmt::Formatter<W>) -> fmt::Result {
         let style = self.style;
         let needs = List::new(FLUENTS, self.one.needs);
@@ -167,7 +167,7 @@ impl<'a> TaskInWords<'a> {
     }
 }
 
-impl<'a> fmt::Display for TaskInWords<'a> {
+impl fmt::Display for TaskInWords<'_> {
     fn fmt<W: fmt::Write>(&self, f: &mut fmt::Formatter<W>) -> fmt::Result {
         let TaskInWords { task, style } = *self;
         let sizes = Sizes { task, style };
