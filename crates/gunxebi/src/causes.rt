@@ -68,8 +68,8 @@ impl Stop<'_> {
 
     // The first move of the step that needs others than are in it.
     fn missing<C: Coupling>(&self, coupling: &C) -> Option<Found> {
-        let (a, others) = self.first_related(|a, b| coupling.needs(a, b)
-            && !self.moves.contains(b))?;
+        let is_missing = |a, b| coupling.needs(a, b) && !self.moves.contains(b);
+        let (a, others) = self.first_related(is_missing)?;
         let verb = Verb::Needs;
         let what = List::new(MOVES, plain(others));
         Some(Found::Move { a, verb, what })
@@ -77,7 +77,8 @@ impl Stop<'_> {
 
     // The first move of the step that bars some that are in it.
     fn barred<C: Coupling>(&self, coupling: &C) -> Option<Found> {
-        let (a, others) = self.first_related(|a, b| coupling.bars(a, b) && self.moves.contains(b))?;
+        let is_barred = |a, b| coupling.bars(a, b) && self.moves.contains(b);
+        let (a, others) = self.first_related(is_barred)?;
         let verb = Verb::Bars;
         let what = List::new(MOVES, plain(others));
         Some(Found::Move { a, verb, what })
@@ -102,8 +103,8 @@ impl Stop<'_> {
             Question::Absent => self.barred(coupling),
             Question::Agree => self.torn(),
             Question::Goal => {
-                let unmet = List::new(FLUENTS, unmet(self.task.goal(), self.line));
-                Some(Found::Goal(unmet))
+                let what = List::new(FLUENTS, unmet(self.task.goal(), self.line));
+                Some(Found::Goal(what))
             }
             _ => None,
         }
