@@ -2,19 +2,20 @@
 use crate::ending::Trouble;
 use crate::flaw::Flaw;
 use crate::lines::{Line, read_line};
-use crate::refused::InShort;
 use crate::verdict::judge_written;
 use crate::{hex, request};
 use refusals::{Fault, Refusal};
 use std::alloc::Global;
-use std::fmt;
 use std::io::{BufReader, BufWriter, Write};
+use thiserror::Error;
 
 // Why a request is not answered by 'solves'.
-#[derive(Clone, Copy)]
+#[derive(Clone, Copy, Debug, Error)]
 enum Unsolved {
+    #[error("{0}")]
     Refused(Refusal),
-    Error(Flaw),
+    #[error("error {0}")]
+    Error(#[from] Flaw),
 }
 
 impl From<Fault> for Unsolved {
@@ -26,27 +27,10 @@ impl From<Fault> for Unsolved {
     }
 }
 
-impl From<Flaw> for Unsolved {
-    fn from(flaw: Flaw) -> Unsolved {
-        Unsolved::Error(flaw)
-    }
-}
-
-impl fmt::Display for Unsolved {
-    fn fmt<W: fmt::Write>(&self, f: &mut fmt::Formatter<W>) -> fmt::Result {
-        match *self {
-            Unsolved::Refused(refusal) => {
-                let short = InShort(refusal);
-                write!(f, "{short}")
-            }
-            Unsolved::Error(flaw) => write!(f, "error {flaw}"),
-        }
-    }
-}
-
 // Does the plan of a request solve its task?
-fn solve(heap: Global, line: &Line) -> Result<(), Unsolved> {
-    let request = request::read(line.bytes()?)?;
+fn solve(heap: Global, line: Line) -> Result<(), Unsolved> {
+    let line = line?;
+    let request = request::read(&line)?;
     let task = hex::bytes(heap, request.task)?;
     let plan = hex::bytes(heap, request.plan)?;
     judge_written(heap, &task, &plan)?;
@@ -56,20 +40,13 @@ fn solve(heap: Global, line: &Line) -> Result<(), Unsolved> {
 // Answers every line. What waits is written whenever no more requests have been read.
 pub fn answer_all(rt: &HostRuntime) -> Result<(), Trouble> {
     let heap = rt.alloc();
-    let Ok(mut input) = BufReader::new(heap, rt.stdin()) else {
-        return Err(Trouble::Memory);
-    };
-    let Ok(mut output) = BufWriter::new(heap, rt.stdout()) else {
-        return Err(Trouble::Memory);
-    };
-    let mut line = Line::new(heap);
+    let mut input = BufReader::new(heap, rt.stdin()).map_err(|_| Trouble::Memory)?;
+    let mut output = BufWriter::new(heap, rt.stdout()).map_err(|_| Trouble::Memory)?;
     for _ in 0..u64::MAX {
-        match read_line(&mut input, &mut line) {
-            Ok(true) => {}
-            Ok(false) => break,
-            Err(e) => return Err(Trouble::UnreadableInput(e)),
-        }
-        match solve(heap, &line) {
+        let Some(line) = read_line(heap, &mut input).map_err(Trouble::UnreadableInput)? else {
+            break;
+        };
+        match solve(heap, line) {
             Ok(()) => writeln!(output, "solves")?,
             Err(unsolved) => writeln!(output, "{unsolved}")?,
         }

@@ -3,26 +3,15 @@ ghost use Rattle.std.specs.Prelude.{◌≡◌};
 ghost use Rattle.model.specs.Sets.{meet, minus};
 ghost use Rattle.sets.specs.Members.{members};
 
-use crate::refused::Found;
-use crate::words::{List, plain};
+use crate::refused::{Found, Verb};
+use crate::words::{FLUENTS, List, MOVES, plain};
 use coupling::Coupling;
-use moves::Literals;
+use moves::{Context, Literals};
 use refusals::{Question, Refusal};
 use sets::IndexSet;
-use step::{clashes, joint_changes, lacks};
+use step::{Joint, Step};
 use task::Task;
 use task_command::next;
-
-// The operand of a station without a move.
-const NONE: u8 = 0xff;
-
-// Where the steps of a plan end: the fluents that are true there, and the moves of the step that is refused there, if
-// one is.
-#[derive(Clone, Copy)]
-pub struct Stop {
-    pub line: IndexSet,
-    pub moves: IndexSet,
-}
 
 // The literals that do not hold in a set.
 fn unmet(literals: Literals, set: IndexSet) -> Literals
@@ -35,143 +24,96 @@ fn unmet(literals: Literals, set: IndexSet) -> Literals
     }
 }
 
-// The first move of a step whose needs do not hold.
-fn unready(task: &Task, stop: Stop) -> Option<Found> {
-    for a in 0..task.moves() {
-        if stop.moves.contains(a) && !task.ready(a, stop.line) {
-            let what = List::fluents(unmet(task.get(a)?.needs, stop.line));
-            let verb = "needs";
-            return Some(Found::Move { a, verb, what });
-        }
-    }
-    None
+// Where the steps of a plan end: the fluents that are true there, and the moves of the step that is refused there, if
+// one is.
+#[derive(Drop)]
+pub struct Stop<'a, C> {
+    pub joint: &'a Joint<'a, 'a, C>,
+    pub context: Context,
 }
 
-// The moves that a move needs.
-fn needed_by<C: Coupling>(task: &Task, coupling: &C, a: u8) -> IndexSet {
-    let mut all = IndexSet::empty();
-    for b in 0..task.moves() {
-        if coupling.needs(a, b) {
-            all = all.insert(b);
-        }
+impl<C: Coupling> Stop<'_, C> {
+    // The moves of the task that pass a test.
+    fn moves_where<F: Fn(u8) -> bool>(&self, test: F) -> IndexSet
+        requires { F.IsAlwaysCallable test }
+    {
+        (0..self.joint.task.moves())
+            .filter(|a| test(*a))
+            .fold(IndexSet::empty(), |all, a| all.insert(a))
     }
-    all
-}
 
-// The moves that a move bars.
-fn barred_by<C: Coupling>(task: &Task, coupling: &C, a: u8) -> IndexSet {
-    let mut all = IndexSet::empty();
-    for b in 0..task.moves() {
-        if coupling.bars(a, b) {
-            all = all.insert(b);
-        }
+    // The first move of the step that passes a test.
+    fn first_move<F: Fn(u8) -> bool>(&self, test: F) -> Option<u8>
+        requires { F.IsAlwaysCallable test }
+    {
+        (0..self.joint.task.moves()).find(|a| self.context.moves.contains(*a) && test(*a))
     }
-    all
-}
 
-// The first move of a step that needs others than are in it.
-fn missing<C: Coupling>(task: &Task, coupling: &C, moves: IndexSet) -> Option<Found> {
-    for a in 0..task.moves() {
-        if moves.contains(a) && lacks(task, coupling, moves, a) {
-            let what = List::moves(plain(needed_by(task, coupling, a).difference(moves)));
-            let verb = "needs";
-            return Some(Found::Move { a, verb, what });
-        }
+    // The first move of the step that stands in a relation to moves of the task, and those moves.
+    fn first_related<F: Fn(u8, u8) -> bool>(&self, related: F) -> Option<(u8, IndexSet)>
+        requires { F.IsAlwaysCallable related }
+    {
+        let a = self.first_move(|a| (0..self.joint.task.moves()).any(|b| related(a, b)))?;
+        Some((a, self.moves_where(|b| related(a, b))))
     }
-    None
-}
 
-// The first move of a step that bars some that are in it.
-fn barred<C: Coupling>(task: &Task, coupling: &C, moves: IndexSet) -> Option<Found> {
-    for a in 0..task.moves() {
-        if moves.contains(a) && clashes(task, coupling, moves, a) {
-            let what = List::moves(plain(barred_by(task, coupling, a).intersection(moves)));
-            let verb = "bars";
-            return Some(Found::Move { a, verb, what });
-        }
+    // The first move of the step whose needs do not hold.
+    fn unready(&self) -> Option<Found> {
+        let Joint { task, .. } = self.joint;
+        let a = self.first_move(|a| !task.ready(a, self.context.line))?;
+        let verb = Verb::Needs;
+        let what = List::new(FLUENTS, unmet(task.get(a)?.needs, self.context.line));
+        Some(Found::Move { a, verb, what })
     }
-    None
-}
 
-// The first move of a step that makes a fluent true, or false.
-fn maker(task: &Task, stop: Stop, fluent: u8, value: bool) -> Option<u8> {
-    for a in 0..task.moves() {
-        let results = task.results(a, stop.line, stop.moves);
-        let named = if value {
-            results.plain
-        } else {
-            results.negated
-        };
-        if stop.moves.contains(a) && named.contains(fluent) {
-            return Some(a);
-        }
+    // The first move of the step that needs others than are in it.
+    fn missing(&self) -> Option<Found> {
+        let is_missing = |a, b| self.joint.coupling.needs(a, b) && !self.context.moves.contains(b);
+        let (a, others) = self.first_related(is_missing)?;
+        let verb = Verb::Needs;
+        let what = List::new(MOVES, plain(others));
+        Some(Found::Move { a, verb, what })
     }
-    None
-}
 
-// The first fluent that the moves of a step make true and false.
-fn torn(task: &Task, stop: Stop) -> Option<Found> {
-    let changes = joint_changes(task, stop.line, stop.moves);
-    for fluent in 0..task.fluents() {
-        if changes.made.contains(fluent) && changes.unmade.contains(fluent) {
-            let by = maker(task, stop, fluent, true)?;
-            let but = maker(task, stop, fluent, false)?;
-            return Some(Found::Torn { fluent, by, but });
-        }
+    // The first move of the step that bars some that are in it.
+    fn barred(&self) -> Option<Found> {
+        let is_barred = |a, b| self.joint.coupling.bars(a, b) && self.context.moves.contains(b);
+        let (a, others) = self.first_related(is_barred)?;
+        let verb = Verb::Bars;
+        let what = List::new(MOVES, plain(others));
+        Some(Found::Move { a, verb, what })
     }
-    None
-}
 
-// What a question finds where the steps of a plan end.
-pub fn on_line<C: Coupling>(
-    task: &Task,
-    coupling: &C,
-    question: Question,
-    stop: Stop,
-) -> Option<Found> {
-    match question {
-        Question::Needs => unready(task, stop),
-        Question::Present => missing(task, coupling, stop.moves),
-        Question::Absent => barred(task, coupling, stop.moves),
-        Question::Agree => torn(task, stop),
-        Question::Goal => Some(Found::Goal(List::fluents(unmet(task.goal(), stop.line)))),
-        _ => None,
+    // The first fluent that the moves of the step make true and false.
+    fn torn(&self) -> Option<Found> {
+        let Literals { plain, negated } = self.joint.joint_changes(self.context);
+        let both = plain.intersection(negated);
+        let fluent = (0..self.joint.task.fluents()).find(|k| both.contains(*k))?;
+        let results = |a| self.joint.task.results(a, self.context);
+        let by = self.first_move(|a| results(a).plain.contains(fluent))?;
+        let but = self.first_move(|a| results(a).negated.contains(fluent))?;
+        Some(Found::Torn { fluent, by, but })
     }
-}
 
-// The first operand of a STEP that is no move.
-fn unknown(task: &Task, operands: &[u8]) -> Option<Found> {
-    for (station, b) in operands.iter().enumerate() {
-        if *b != NONE && *b >= task.moves() {
-            let operand = *b;
-            return Some(Found::NoMove { station, operand });
-        }
-    }
-    None
-}
-
-// The first operand of a STEP that is a move of another station.
-fn foreign(task: &Task, operands: &[u8]) -> Option<Found> {
-    for (station, b) in operands.iter().enumerate() {
-        if let Some(own) = task.station(*b) {
-            if own as usize != station {
-                return Some(Found::Foreign {
-                    station,
-                    a: *b,
-                    own,
-                });
+    // What a question finds there.
+    pub fn found(&self, question: Question) -> Option<Found> {
+        match question {
+            Question::Needs => self.unready(),
+            Question::Present => self.missing(),
+            Question::Absent => self.barred(),
+            Question::Agree => self.torn(),
+            Question::Goal => {
+                let what = List::new(FLUENTS, unmet(self.joint.task.goal(), self.context.line));
+                Some(Found::Goal(what))
             }
+            _ => None,
         }
     }
-    None
 }
 
 // What stands at an offset of a file.
 fn byte(file: &[u8], offset: usize) -> Found {
-    match file.get(offset) {
-        Some(b) => Found::Byte(*b),
-        None => Found::End,
-    }
+    file.get(offset).map_or(Found::End, |b| Found::Byte(*b))
 }
 
 // What a question about the form of a task finds at its place.
@@ -185,18 +127,37 @@ pub fn in_task(file: &[u8], refusal: Refusal) -> Option<Found> {
     }
 }
 
-// The operands of the STEP at an offset.
-fn operands(file: &[u8], offset: usize) -> Option<&[u8]> {
+// The STEP at an offset.
+fn step_at(file: &[u8], offset: usize) -> Option<Step> {
     let rest = file.get(offset..)?;
-    rest.get(1..17)
+    let operands = rest.get(1..)?.first_chunk::<16>()?;
+    Some(Step::new(operands))
+}
+
+// The first operand of a STEP that is no move.
+fn unknown(task: &Task, step: Step) -> Option<Found> {
+    (0..16u8).find_map(|station| {
+        let operand = step.move_of(station)?;
+        let is_none = task.station(operand).is_none();
+        is_none.then_some(Found::NoMove { station, operand })
+    })
+}
+
+// The first operand of a STEP that is a move of another station.
+fn foreign(task: &Task, step: Step) -> Option<Found> {
+    (0..16u8).find_map(|station| {
+        let a = step.move_of(station)?;
+        let own = task.station(a)?;
+        (own != station).then_some(Found::Foreign { station, a, own })
+    })
 }
 
 // What a question about the form of a plan finds at its place.
 pub fn in_plan(task: &Task, file: &[u8], refusal: Refusal) -> Option<Found> {
     match refusal.question {
         Question::Limit => None,
-        Question::Range => unknown(task, operands(file, refusal.place)?),
-        Question::Station => foreign(task, operands(file, refusal.place)?),
+        Question::Range => unknown(task, step_at(file, refusal.place)?),
+        Question::Station => foreign(task, step_at(file, refusal.place)?),
         _ => Some(byte(file, refusal.place)),
     }
 }

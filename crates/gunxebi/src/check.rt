@@ -6,10 +6,10 @@ use crate::causes::in_task;
 use crate::ending::{Ended, Trouble};
 use crate::excerpt::Excerpt;
 use crate::files::read_file;
-use crate::full::TaskInFull;
-use crate::refused::{Found, Reason, Source, hint};
-use crate::words::SizesInWords;
+use crate::refused::{Found, Reason, Source};
+use crate::tasks::{Sizes, TaskInWords};
 use refusals::{Fault, Question, Refusal};
+use std::io;
 use task::Task;
 use task_file::LIMIT as TASK_LIMIT;
 
@@ -25,14 +25,14 @@ fn offender(refusal: Refusal) -> usize
 }
 
 // Says why a task file is not read, with the bytes where it is refused.
-pub fn refuse_task(rt: &HostRuntime, file: &[u8], fault: Fault) -> Result<Ended, Trouble> {
-    let refusal = match fault {
-        Fault::Refused(refusal) => refusal,
-        Fault::Memory => return Err(Trouble::Memory),
+fn refuse_task(rt: &HostRuntime, file: &[u8], fault: Fault) -> Result<Ended, Trouble> {
+    let Fault::Refused(refusal) = fault else {
+        return Err(Trouble::Memory);
     };
+    let offset = offender(refusal);
     let source = Source::Task;
     let found = match refusal.question {
-        Question::Limit => Some(Found::Past(TASK_LIMIT)),
+        Question::Limit => Some(Found::Past(offset)),
         _ => in_task(file, refusal),
     };
     let reason = Reason {
@@ -40,35 +40,42 @@ pub fn refuse_task(rt: &HostRuntime, file: &[u8], fault: Fault) -> Result<Ended,
         source,
         found,
     };
-    let offset = offender(refusal);
     let excerpt = Excerpt { file, offset };
-    let hint = hint(refusal.question, source);
+    let hint = reason.hint();
     println!(rt; "{reason}\n{excerpt}\nhint: {hint}")?;
     Ok(Ended::Refused)
 }
 
-// Says whether a task file is accepted.
-pub fn check_task(rt: &HostRuntime, path: &str) -> Result<Ended, Trouble> {
+// Reads the task of a file, and says something of it where it is accepted.
+fn say_of_task<F: FnOnce(&Task) -> io::Result<()>>(
+    rt: &HostRuntime,
+    path: &str,
+    say: F,
+) -> Result<Ended, Trouble>
+    requires { F.IsAlwaysCallable say }
+{
     let file = read_file(rt, path)?;
     match Task::read(rt.alloc(), &file) {
         Ok(task) => {
-            let sizes = SizesInWords(&task);
-            println!(rt; "accepted: {sizes}")?;
+            say(&task)?;
             Ok(Ended::Well)
         }
         Err(fault) => refuse_task(rt, &file, fault),
     }
 }
 
+// Says whether a task file is accepted.
+pub fn check_task(rt: &HostRuntime, path: &str) -> Result<Ended, Trouble> {
+    say_of_task(rt, path, |task| {
+        let sizes = Sizes::short(task);
+        println!(rt; "accepted: {sizes}")
+    })
+}
+
 // Shows the task of a file.
 pub fn show_task(rt: &HostRuntime, path: &str) -> Result<Ended, Trouble> {
-    let file = read_file(rt, path)?;
-    match Task::read(rt.alloc(), &file) {
-        Ok(task) => {
-            let words = TaskInFull(&task);
-            print!(rt; "{words}")?;
-            Ok(Ended::Well)
-        }
-        Err(fault) => refuse_task(rt, &file, fault),
-    }
+    say_of_task(rt, path, |task| {
+        let words = TaskInWords::full(task);
+        print!(rt; "{words}")
+    })
 }

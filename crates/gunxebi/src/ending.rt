@@ -1,6 +1,8 @@
 // How the program ends.
 use std::alloc::AllocError;
-use std::{fmt, io};
+use std::io;
+use std::process::ExitCode;
+use thiserror::Error;
 
 // What a call came to that met no trouble.
 #[derive(Clone, Copy)]
@@ -10,46 +12,38 @@ pub enum Ended {
     Refused,
 }
 
+impl From<Ended> for ExitCode {
+    fn from(ended: Ended) -> ExitCode {
+        match ended {
+            Ended::Well => ExitCode::SUCCESS,
+            Ended::Refused => ExitCode::FAILURE,
+        }
+    }
+}
+
 // What keeps the program from its work, in one line for the person who called it.
-#[derive(Drop)]
+#[derive(Debug, Drop, Error)]
 pub enum Trouble {
+    #[error("unknown command '{0}'; try 'gunxebi help'")]
     UnknownCommand(String),
     // The argument is what to write instead.
+    #[error("wrong number of arguments; write '{0}'")]
     WrongArguments(&'static str),
+    #[error("cannot read the arguments: {0}")]
     UnreadableArguments(io::Error),
+    #[error("cannot read {0}: {1}")]
     UnreadableFile(String, io::Error),
+    #[error("cannot read standard input: {0}")]
     UnreadableInput(io::Error),
-    UnwritableOutput(io::Error),
+    // Where a `?` stands after a print.
+    #[error("cannot write to standard output: {0}")]
+    UnwritableOutput(#[from] io::Error),
+    #[error("not enough memory")]
     Memory,
 }
 
 impl From<AllocError> for Trouble {
     fn from(_e: AllocError) -> Trouble {
         Trouble::Memory
-    }
-}
-
-// Where a `?` stands after a print.
-impl From<io::Error> for Trouble {
-    fn from(e: io::Error) -> Trouble {
-        Trouble::UnwritableOutput(e)
-    }
-}
-
-impl fmt::Display for Trouble {
-    fn fmt<W: fmt::Write>(&self, f: &mut fmt::Formatter<W>) -> fmt::Result {
-        match self {
-            Trouble::UnknownCommand(word) => {
-                write!(f, "unknown command '{word}'; try 'gunxebi help'")
-            }
-            Trouble::WrongArguments(usage) => {
-                write!(f, "wrong number of arguments; write '{usage}'")
-            }
-            Trouble::UnreadableArguments(e) => write!(f, "cannot read the arguments: {e}"),
-            Trouble::UnreadableFile(path, e) => write!(f, "cannot read {path}: {e}"),
-            Trouble::UnreadableInput(e) => write!(f, "cannot read standard input: {e}"),
-            Trouble::UnwritableOutput(e) => write!(f, "cannot write to standard output: {e}"),
-            Trouble::Memory => f.write_str("not enough memory"),
-        }
     }
 }

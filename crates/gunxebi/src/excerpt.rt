@@ -4,7 +4,7 @@ ghost use Rattle.std.specs.Prelude.{◌≡◌, ◌+◌, ◌*◌, ◌/◌, ◌%�
 use std::fmt;
 
 // The bytes of a row.
-const ROW: usize = 16;
+pub const ROW: usize = 16;
 
 // What a row has before its first byte, and for each byte: "  0016  " and "0F ".
 const MARGIN: usize = 8;
@@ -22,18 +22,14 @@ fn row_of(offset: usize) -> usize
 fn row_before(row: usize) -> Option<usize>
     ensures { MatchOption result (row < 16) (λ before. before + 16 ≡ row) }
 {
-    if row < ROW { None } else { Some(row - ROW) }
+    row.checked_sub(ROW)
 }
 
 // Where the row after another begins, if that is before the end of the file.
 fn row_after(row: usize, end: usize) -> Option<usize>
     ensures { MatchOption result (end ≤ row + 16) (λ after. (after ≡ row + 16) × (after < end)) }
 {
-    if row < end && ROW < end - row {
-        Some(row + ROW)
-    } else {
-        None
-    }
+    row.checked_add(ROW).filter(|after| *after < end)
 }
 
 // The column, counted from 0, of the first digit of the byte at an offset.
@@ -56,18 +52,13 @@ impl<'a> Row<'a> {
         ensures offset { result.offset ≡ offset }
         ensures bytes { result.bytes.now ≡ take 16 (drop offset file.now) }
     {
-        let bytes = if offset >= file.len() {
-            &[]
-        } else if ROW < file.len() - offset {
-            &file[offset..offset + ROW]
-        } else {
-            &file[offset..]
-        };
+        let rest = file.get(offset..).unwrap_or(&[]);
+        let bytes = rest.get(..ROW).unwrap_or(rest);
         Row { offset, bytes }
     }
 }
 
-impl<'a> fmt::Display for Row<'a> {
+impl fmt::Display for Row<'_> {
     fn fmt<W: fmt::Write>(&self, f: &mut fmt::Formatter<W>) -> fmt::Result {
         let offset = self.offset;
         write!(f, "  {offset:04}")?;
@@ -87,7 +78,7 @@ pub struct Excerpt<'a> {
     pub offset: usize,
 }
 
-impl<'a> fmt::Display for Excerpt<'a> {
+impl fmt::Display for Excerpt<'_> {
     fn fmt<W: fmt::Write>(&self, f: &mut fmt::Formatter<W>) -> fmt::Result {
         let Excerpt { file, offset } = *self;
         let row = row_of(offset);

@@ -1,41 +1,33 @@
 // Why a request has no verdict.
-use std::alloc::AllocFailed;
-use std::fmt;
+use std::alloc::AllocError;
+use thiserror::Error;
 
-#[derive(Clone, Copy)]
+#[derive(Clone, Copy, Debug, Error)]
 pub enum Flaw {
+    #[error("empty line")]
     EmptyLine,
+    #[error("line too long")]
     LongLine,
+    #[error("unknown request")]
     UnknownRequest,
+    #[error("wrong number of fields")]
     Fields,
+    #[error("unknown coupling")]
     UnknownCoupling,
+    #[error("empty field")]
     EmptyField,
+    #[error("not lower-case hexadecimal")]
     NotHex,
+    #[error("an odd number of digits")]
     OddDigits,
+    #[error("not yet")]
     NotYet,
+    #[error("memory")]
     Memory,
 }
 
-// Where a `?` stands after a push that found no memory.
-impl<T: Drop> From<AllocFailed<T>> for Flaw {
-    fn from(_e: AllocFailed<T>) -> Flaw {
+impl From<AllocError> for Flaw {
+    fn from(_e: AllocError) -> Flaw {
         Flaw::Memory
-    }
-}
-
-impl fmt::Display for Flaw {
-    fn fmt<W: fmt::Write>(&self, f: &mut fmt::Formatter<W>) -> fmt::Result {
-        f.write_str(match *self {
-            Flaw::EmptyLine => "empty line",
-            Flaw::LongLine => "line too long",
-            Flaw::UnknownRequest => "unknown request",
-            Flaw::Fields => "wrong number of fields",
-            Flaw::UnknownCoupling => "unknown coupling",
-            Flaw::EmptyField => "empty field",
-            Flaw::NotHex => "not lower-case hexadecimal",
-            Flaw::OddDigits => "an odd number of digits",
-            Flaw::NotYet => "not yet",
-            Flaw::Memory => "memory",
-        })
     }
 }

@@ -37,14 +37,9 @@ fn pair(digits: &[u8]) -> Result<u8, Flaw> {
 
 // The bytes of a file: two digits a byte, or '-' for an empty file.
 pub fn bytes(heap: Global, digits: &[u8]) -> Result<Vec<u8>, Flaw> {
-    let mut file = Vec::new(heap);
     match digits {
-        b"-" => return Ok(file),
-        [] => return Err(Flaw::EmptyField),
-        _ => {}
+        b"-" => Ok(Vec::new(heap)),
+        [] => Err(Flaw::EmptyField),
+        _ => digits.chunks(2).map(pair).try_collect(heap),
     }
-    for two in digits.chunks(2) {
-        file.push(pair(two)?)?;
-    }
-    Ok(file)
 }

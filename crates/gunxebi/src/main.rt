@@ -10,12 +10,12 @@ mod ending;
 mod excerpt;
 mod files;
 mod flaw;
-mod full;
 mod hex;
 mod lines;
 mod refused;
 mod request;
 mod show;
+mod tasks;
 mod text;
 mod verdict;
 mod words;
@@ -57,9 +57,9 @@ fn run(rt: &HostRuntime) -> Result<Ended, Trouble> {
             println!(rt; "{USAGE}\nThe tray lift: gunxebi judge {TASK} {PLAN}\n")?;
             judge(rt, TASK, PLAN)
         }
-        Command::Show { task } => show_task(rt, task.as_str()),
-        Command::Check { task } => check_task(rt, task.as_str()),
-        Command::Judge { task, plan } => judge(rt, task.as_str(), plan.as_str()),
+        Command::Show { task } => show_task(rt, &task),
+        Command::Check { task } => check_task(rt, &task),
+        Command::Judge { task, plan } => judge(rt, &task, &plan),
         Command::Batch => {
             answer_all(rt)?;
             Ok(Ended::Well)
@@ -75,8 +75,7 @@ fn run(rt: &HostRuntime) -> Result<Ended, Trouble> {
 // The status 1 says no more than what has been printed.
 fn main(rt: HostRuntime) -> ExitCode {
     match run(&rt) {
-        Ok(Ended::Well) => ExitCode::SUCCESS,
-        Ok(Ended::Refused) => ExitCode::FAILURE,
+        Ok(ended) => ExitCode::from(ended),
         Err(trouble) => {
             let _ = eprintln!(rt; "gunxebi: {trouble}");
             ExitCode::FAILURE

@@ -4,21 +4,6 @@ use refusals::{Layer, Question, Refusal};
 use std::fmt;
 use task_command::Command;
 
-// A refusal in short: "refused 12 run 1".
-#[derive(Clone, Copy)]
-pub struct InShort(pub Refusal);
-
-impl fmt::Display for InShort {
-    fn fmt<W: fmt::Write>(&self, f: &mut fmt::Formatter<W>) -> fmt::Result {
-        let number = self.0.question.number();
-        let place = self.0.place;
-        match self.0.question.layer() {
-            Layer::Form => write!(f, "refused {number} form {place}"),
-            Layer::Run => write!(f, "refused {number} run {place}"),
-        }
-    }
-}
-
 // The file that a question of form is asked of.
 #[derive(Clone, Copy)]
 pub enum Source {
@@ -28,51 +13,41 @@ pub enum Source {
 
 impl fmt::Display for Source {
     fn fmt<W: fmt::Write>(&self, f: &mut fmt::Formatter<W>) -> fmt::Result {
-        match *self {
-            Source::Task => f.write_str("task file"),
-            Source::Plan => f.write_str("plan file"),
-        }
+        f.write_str(match *self {
+            Source::Task => "task file",
+            Source::Plan => "plan file",
+        })
     }
 }
 
-// What was asked and answered no, of a file or of the line.
+// Where a question was asked: "at offset 3 of the task file" or "step 3".
 #[derive(Clone, Copy)]
-pub struct Asked {
-    pub refusal: Refusal,
-    pub source: Source,
-}
+struct Place(Refusal, Source);
 
-// The words before and after the place of a refusal.
-fn around(question: Question) -> (&'static str, &'static str) {
-    match question {
-        Question::Limit => ("the ", " has more bytes than its limit"),
-        Question::Command => ("no command with all its operands stands ", ""),
-        Question::Order => ("the command ", " is out of order"),
-        Question::Range => ("an operand of the command ", " is out of range"),
-        Question::New => ("the fluent or move ", " is in its list already"),
-        Question::Effects => ("the EFFECT ", " is the ninth of its move"),
-        Question::Station => ("the STEP ", " has a move of another station"),
-        Question::Needs => ("the needs of a move of ", " do not hold"),
-        Question::Present => ("a move of ", " needs one that is not in it"),
-        Question::Absent => ("a move of ", " bars one that is in it"),
-        Question::Agree => ("the results of ", " do not agree"),
-        Question::Goal => ("the goal is not met after ", ""),
+impl fmt::Display for Place {
+    fn fmt<W: fmt::Write>(&self, f: &mut fmt::Formatter<W>) -> fmt::Result {
+        let Place(refusal, source) = *self;
+        let place = refusal.place;
+        match refusal.question.layer() {
+            Layer::Form => write!(f, "at offset {place} of the {source}"),
+            Layer::Run => write!(f, "step {place}"),
+        }
     }
 }
 
-impl fmt::Display for Asked {
+// What a move asks of the line or of the other moves of its step.
+#[derive(Clone, Copy)]
+pub enum Verb {
+    Needs,
+    Bars,
+}
+
+impl fmt::Display for Verb {
     fn fmt<W: fmt::Write>(&self, f: &mut fmt::Formatter<W>) -> fmt::Result {
-        let Refusal { question, place } = self.refusal;
-        let source = self.source;
-        let (before, after) = around(question);
-        f.write_str(before)?;
-        match (question, question.layer()) {
-            (Question::Limit, _) => write!(f, "{source}")?,
-            (Question::Goal, _) => write!(f, "{}", Count(place, "step"))?,
-            (_, Layer::Form) => write!(f, "at offset {place} of the {source}")?,
-            (_, Layer::Run) => write!(f, "step {place}")?,
-        }
-        f.write_str(after)
+        f.write_str(match *self {
+            Verb::Needs => "needs",
+            Verb::Bars => "bars",
+        })
     }
 }
 
@@ -88,28 +63,13 @@ pub enum Found {
     // The command of a task file at the place of the refusal.
     Command(Command),
     // The operand of a station is no move.
-    NoMove {
-        station: usize,
-        operand: u8,
-    },
+    NoMove { station: u8, operand: u8 },
     // The operand of a station is a move of another one.
-    Foreign {
-        station: usize,
-        a: u8,
-        own: u8,
-    },
+    Foreign { station: u8, a: u8, own: u8 },
     // A move needs what does not hold, or needs or bars other moves than the step's.
-    Move {
-        a: u8,
-        verb: &'static str,
-        what: List,
-    },
+    Move { a: u8, verb: Verb, what: List },
     // One move makes a fluent true that another makes false.
-    Torn {
-        fluent: u8,
-        by: u8,
-        but: u8,
-    },
+    Torn { fluent: u8, by: u8, but: u8 },
     // Goal literals do not hold.
     Goal(List),
 }
@@ -147,45 +107,69 @@ pub struct Reason {
     pub found: Option<Found>,
 }
 
+impl Reason {
+    // Writes what was asked and answered no, of a file or of the line.
+    fn write_asked<W: fmt::Write>(&self, f: &mut fmt::Formatter<W>) -> fmt::Result {
+        let source = self.source;
+        let place = Place(self.refusal, source);
+        match self.refusal.question {
+            Question::Limit => write!(f, "the {source} has more bytes than its limit"),
+            Question::Command => write!(f, "no command with all its operands stands {place}"),
+            Question::Order => write!(f, "the command {place} is out of order"),
+            Question::Range => write!(f, "an operand of the command {place} is out of range"),
+            Question::New => write!(f, "the fluent or move {place} is in its list already"),
+            Question::Effects => write!(f, "the EFFECT {place} is the ninth of its move"),
+            Question::Station => write!(f, "the STEP {place} has a move of another station"),
+            Question::Needs => write!(f, "the needs of a move of {place} do not hold"),
+            Question::Present => write!(f, "a move of {place} needs one that is not in it"),
+            Question::Absent => write!(f, "a move of {place} bars one that is in it"),
+            Question::Agree => write!(f, "the results of {place} do not agree"),
+            Question::Goal => {
+                let steps = Count(self.refusal.place, "step");
+                write!(f, "the goal is not met after {steps}")
+            }
+        }
+    }
+
+    // What to do about it.
+    pub fn hint(&self) -> &'static str {
+        match (self.refusal.question, self.source) {
+            (Question::Limit, Source::Task) =>
+                "make the file shorter; a task file has at most 8,192 bytes",
+            (Question::Limit, Source::Plan) =>
+                "cut the plan in two; a plan has at most 256 steps, which are 4,352 bytes",
+            (Question::Command, Source::Task) =>
+                "look for an operand too many or too few further up, or for a missing END",
+            (Question::Command, Source::Plan) => "write 31 and sixteen operands for each step",
+            (Question::Order, _) =>
+                "compare with the order of commands in docs/FORMATS.md, and count the moves",
+            (Question::Range, Source::Task) =>
+                "compare the operands with SIZES; numbers begin at 0",
+            (Question::Range, Source::Plan) =>
+                "name a move that the task has, or FF for none; numbers begin at 0",
+            (Question::New, _) => "take out one of the two; the sign does not matter",
+            (Question::Effects, _) =>
+                "join effects that have the same conditions, or divide the move into two",
+            (Question::Station, _) => "put the move into the operand of its own station",
+            (Question::Needs, _) =>
+                "bring the need about in an earlier step; what the step itself does comes too late",
+            (Question::Present, _) =>
+                "put the needed move into the step, or take out the move that needs it",
+            (Question::Absent, _) => "put the two moves into different steps",
+            (Question::Agree, _) =>
+                "put the moves into different steps, or give an effect a condition",
+            (Question::Goal, _) => "add steps, or look for the step that made a goal literal false",
+        }
+    }
+}
+
 impl fmt::Display for Reason {
     fn fmt<W: fmt::Write>(&self, f: &mut fmt::Formatter<W>) -> fmt::Result {
-        let refusal = self.refusal;
-        let source = self.source;
-        let short = InShort(refusal);
-        let asked = Asked { refusal, source };
-        write!(f, "{short}: {asked}")?;
+        write!(f, "{}: ", self.refusal)?;
+        self.write_asked(f)?;
         if let Some(found) = self.found {
             write!(f, "\nfound: {found}")?;
         }
         Ok(())
-    }
-}
-
-// What to do about a refusal.
-pub fn hint(question: Question, source: Source) -> &'static str {
-    match (question, source) {
-        (Question::Limit, Source::Task) =>
-            "make the file shorter; a task file has at most 8,192 bytes",
-        (Question::Limit, Source::Plan) =>
-            "cut the plan in two; a plan has at most 256 steps, which are 4,352 bytes",
-        (Question::Command, Source::Task) =>
-            "look for an operand too many or too few further up, or for a missing END",
-        (Question::Command, Source::Plan) => "write 31 and sixteen operands for each step",
-        (Question::Order, _) =>
-            "compare with the order of commands in docs/FORMATS.md, and count the moves",
-        (Question::Range, Source::Task) => "compare the operands with SIZES; numbers begin at 0",
-        (Question::Range, Source::Plan) =>
-            "name a move that the task has, or FF for none; numbers begin at 0",
-        (Question::New, _) => "take out one of the two; the sign does not matter",
-        (Question::Effects, _) =>
-            "join effects that have the same conditions, or divide the move into two",
-        (Question::Station, _) => "put the move into the operand of its own station",
-        (Question::Needs, _) =>
-            "bring the need about in an earlier step; what the step itself does comes too late",
-        (Question::Present, _) =>
-            "put the needed move into the step, or take out the move that needs it",
-        (Question::Absent, _) => "put the two moves into different steps",
-        (Question::Agree, _) => "put the moves into different steps, or give an effect a condition",
-        (Question::Goal, _) => "add steps, or look for the step that made a goal literal false",
     }
 }

@@ -9,60 +9,42 @@ pub struct Request<'a> {
     pub plan: &'a [u8],
 }
 
-// Requests that are known by name, and not answered yet.
-const LATER: [&[u8]; 8] = [
-    b"judge-compiled",
-    b"compile",
-    b"encode",
-    b"read-back",
-    b"alike",
-    b"run",
-    b"guided",
-    b"lockout",
-];
-
-// Why a name is not that of a request that is answered.
-fn unanswered(name: &[u8]) -> Flaw {
-    for later in &LATER {
-        if name == *later {
-            return Flaw::NotYet;
-        }
-    }
-    Flaw::UnknownRequest
-}
-
-// The request of a line.
-pub fn read<'a>(line: &'a [u8]) -> Result<Request<'a>, Flaw> {
+// The request of a line. Some are known by name, and not answered yet.
+pub fn read(line: &[u8]) -> Result<Request<'_>, Flaw> {
     if line.is_empty() {
         return Err(Flaw::EmptyLine);
     }
     let (name, fields) = cut(line, b' ');
-    if name != b"judge-joint".as_slice() {
-        return Err(unanswered(name));
+    match name {
+        b"judge-joint" => judge_joint(fields),
+        b"judge-compiled"
+        | b"compile"
+        | b"encode"
+        | b"read-back"
+        | b"alike"
+        | b"run"
+        | b"guided"
+        | b"lockout" => Err(Flaw::NotYet),
+        _ => Err(Flaw::UnknownRequest),
     }
-    judge_joint(fields)
 }
 
-fn judge_joint<'a>(fields: Option<&'a [u8]>) -> Result<Request<'a>, Flaw> {
-    let (coupling, fields) = cut(fields.ok_or(Flaw::Fields)?, b' ');
-    let (task, fields) = cut(fields.ok_or(Flaw::Fields)?, b' ');
-    let (plan, fields) = cut(fields.ok_or(Flaw::Fields)?, b' ');
-    if fields.is_some() {
-        return Err(Flaw::Fields);
+fn judge_joint(fields: Option<&[u8]>) -> Result<Request<'_>, Flaw> {
+    let mut fields = fields.ok_or(Flaw::Fields)?.split(|b| *b == b' ');
+    match (fields.next(), fields.next(), fields.next(), fields.next()) {
+        (Some(coupling), Some(task), Some(plan), None) => {
+            ask_coupling(coupling)?;
+            Ok(Request { task, plan })
+        }
+        _ => Err(Flaw::Fields),
     }
-    ask_coupling(coupling)?;
-    Ok(Request { task, plan })
 }
 
 // Is the coupling the written one? Others are 'footprint', and both with pairs of a lockout after a '+'.
 fn ask_coupling(coupling: &[u8]) -> Result<(), Flaw> {
-    let (base, pairs) = cut(coupling, b'+');
-    let is_written = base == b"written".as_slice();
-    if is_written && pairs.is_none() {
-        Ok(())
-    } else if is_written || base == b"footprint".as_slice() {
-        Err(Flaw::NotYet)
-    } else {
-        Err(Flaw::UnknownCoupling)
+    match cut(coupling, b'+') {
+        (b"written", None) => Ok(()),
+        (b"written" | b"footprint", _) => Err(Flaw::NotYet),
+        _ => Err(Flaw::UnknownCoupling),
     }
 }

@@ -3,18 +3,19 @@ ghost use Rattle.std.specs.Prelude.{◌≡◌};
 ghost use Rattle.model.specs.Sets.{minus};
 ghost use Rattle.sets.specs.Members.{members};
 
-use crate::causes::{Stop, in_plan, in_task, on_line};
+use crate::causes::{Stop, in_plan, in_task};
 use crate::ending::{Ended, Trouble};
 use crate::files::read_file;
-use crate::refused::{Asked, Found, InShort, Source, hint};
+use crate::refused::{Reason, Source};
+use crate::tasks::TaskInWords;
 use crate::verdict::judge_written;
-use crate::words::{Count, List, StepInWords, TaskInWords, plain};
-use coupling::Written;
-use moves::Literals;
+use crate::words::{Count, FLUENTS, List, StepInWords, plain};
+use coupling::{Coupling, Written};
+use moves::{Context, Literals};
 use plan::read_joint;
-use refusals::{Fault, Layer, Refusal};
+use refusals::{Fault, Layer};
 use sets::IndexSet;
-use step::{Step, step_from};
+use step::{Joint, Step};
 use task::Task;
 
 // What a step changes: the fluents that become true, and those that become false.
@@ -29,48 +30,37 @@ fn changes(before: IndexSet, after: IndexSet) -> Literals
 }
 
 // Shows the steps as far as they are allowed.
-fn show_steps(
+fn show_steps<C: Coupling>(
     rt: &HostRuntime,
-    task: &Task,
-    coupling: &Written,
+    joint: &Joint<'_, '_, C>,
     steps: &[Step],
-) -> Result<Stop, Trouble> {
-    let mut line = task.start();
+) -> Result<Context, Trouble> {
+    let mut line = joint.task.start();
     let count = Count(steps.len(), "step");
-    let start = List::fluents(plain(line));
+    let start = List::new(FLUENTS, plain(line));
     println!(rt; "plan: {count}\n  true at the start: {start}")?;
     for (i, step) in steps.iter().enumerate() {
         let words = StepInWords(*step);
         println!(rt; "  step {i}: {words}")?;
         let moves = step.moves();
-        let Ok(after) = step_from(task, coupling, line, moves) else {
+        let context = Context { line, moves };
+        let Ok(after) = joint.step_from(context) else {
             println!(rt; "    refused")?;
-            return Ok(Stop { line, moves });
+            return Ok(context);
         };
-        let changed = List::fluents(changes(line, after));
-        let holding = List::fluents(plain(after));
+        let changed = List::new(FLUENTS, changes(line, after));
+        let holding = List::new(FLUENTS, plain(after));
         println!(rt; "    changed: {changed}\n    true after: {holding}")?;
         line = after;
     }
     let moves = IndexSet::empty();
-    Ok(Stop { line, moves })
+    Ok(Context { line, moves })
 }
 
 // Says why a plan does not solve.
-fn refuse(
-    rt: &HostRuntime,
-    refusal: Refusal,
-    source: Source,
-    found: Option<Found>,
-) -> Result<Ended, Trouble> {
-    let short = InShort(refusal);
-    let asked = Asked { refusal, source };
-    let hint = hint(refusal.question, source);
-    println!(rt; "{short}: {asked}")?;
-    if let Some(found) = found {
-        println!(rt; "found: {found}")?;
-    }
-    println!(rt; "hint: {hint}")?;
+fn refuse(rt: &HostRuntime, reason: Reason) -> Result<Ended, Trouble> {
+    let hint = reason.hint();
+    println!(rt; "{reason}\nhint: {hint}")?;
     Ok(Ended::Refused)
 }
 
@@ -83,27 +73,36 @@ fn show_plan(
 ) -> Result<Ended, Trouble> {
     let heap = rt.alloc();
     let coupling = Written::new(heap, task)?;
-    let mut stop = Stop {
-        line: task.start(),
-        moves: IndexSet::empty(),
+    let joint = &Joint {
+        task,
+        coupling: &coupling,
     };
-    if let Ok(steps) = read_joint(heap, task, file) {
-        stop = show_steps(rt, task, &coupling, &steps)?;
-    }
-    match verdict {
+    let context = match read_joint(heap, task, file) {
+        Ok(steps) => show_steps(rt, joint, &steps)?,
+        Err(_) => Context {
+            line: task.start(),
+            moves: IndexSet::empty(),
+        },
+    };
+    let refusal = match verdict {
         Ok(()) => {
             println!(rt; "solves: each step is allowed, and the goal is met at the end")?;
-            Ok(Ended::Well)
+            return Ok(Ended::Well);
         }
-        Err(Fault::Refused(refusal)) => match refusal.question.layer() {
-            Layer::Form => refuse(rt, refusal, Source::Plan, in_plan(task, file, refusal)),
-            Layer::Run => {
-                let found = on_line(task, &coupling, refusal.question, stop);
-                refuse(rt, refusal, Source::Plan, found)
-            }
-        },
-        Err(Fault::Memory) => Err(Trouble::Memory),
-    }
+        Err(Fault::Refused(refusal)) => refusal,
+        Err(Fault::Memory) => return Err(Trouble::Memory),
+    };
+    let found = match refusal.question.layer() {
+        Layer::Form => in_plan(task, file, refusal),
+        Layer::Run => Stop { joint, context }.found(refusal.question),
+    };
+    let source = Source::Plan;
+    let reason = Reason {
+        refusal,
+        source,
+        found,
+    };
+    refuse(rt, reason)
 }
 
 // Shows the verdict where there is no task to show.
@@ -112,12 +111,17 @@ fn show_unread(
     file: &[u8],
     verdict: Result<(), Fault>,
 ) -> Result<Ended, Trouble> {
-    match verdict {
-        Err(Fault::Refused(refusal)) => {
-            refuse(rt, refusal, Source::Task, in_task(file, refusal))
-        }
-        _ => Err(Trouble::Memory),
-    }
+    let Err(Fault::Refused(refusal)) = verdict else {
+        return Err(Trouble::Memory);
+    };
+    let source = Source::Task;
+    let found = in_task(file, refusal);
+    let reason = Reason {
+        refusal,
+        source,
+        found,
+    };
+    refuse(rt, reason)
 }
 
 // Judges the plan in one file for the task in another, and shows both.
@@ -126,12 +130,10 @@ pub fn judge(rt: &HostRuntime, task_path: &str, plan_path: &str) -> Result<Ended
     let task_file = read_file(rt, task_path)?;
     let plan_file = read_file(rt, plan_path)?;
     let verdict = judge_written(heap, &task_file, &plan_file);
-    match Task::read(heap, &task_file) {
-        Ok(task) => {
-            let words = TaskInWords(&task);
-            print!(rt; "{words}")?;
-            show_plan(rt, &task, &plan_file, verdict)
-        }
-        Err(_) => show_unread(rt, &task_file, verdict),
-    }
+    let Ok(task) = Task::read(heap, &task_file) else {
+        return show_unread(rt, &task_file, verdict);
+    };
+    let words = TaskInWords::short(&task);
+    print!(rt; "{words}")?;
+    show_plan(rt, &task, &plan_file, verdict)
 }

@@ -5,12 +5,7 @@ ghost use Rattle.std.specs.Prelude.{◌≡◌, ℕ, ◌<◌, ◌∷◌, ◌++◌
 pub fn find(bytes: &[u8], b: u8) -> Option<usize>
     ensures { MatchOption result ((k : ℕ) → k < length bytes.now → slice_index bytes.now k ≢ b) (λ i. (i < length bytes.now) × (slice_index bytes.now i ≡ b) × ((k : ℕ) → k < i → slice_index bytes.now k ≢ b)) }
 {
-    for (i, x) in bytes.iter().enumerate() {
-        if *x == b {
-            return Some(i);
-        }
-    }
-    None
+    bytes.iter().position(|x| *x == b)
 }
 
 // What stands before the first byte that is `b`, and what stands after it, if there is one.
@@ -19,7 +14,7 @@ pub fn cut(bytes: &[u8], b: u8) -> (&[u8], Option<&[u8]>)
     ensures parts { MatchOption result.1 (result.0.now ≡ bytes.now) (λ rest. bytes.now ≡ result.0.now ++ b ∷ rest.now) }
 {
     match find(bytes, b) {
-        Some(i) => (&bytes[0..i], Some(&bytes[i + 1..])),
+        Some(i) => (&bytes[..i], Some(&bytes[i + 1..])),
         None => (bytes, None),
     }
 }
