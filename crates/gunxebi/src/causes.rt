@@ -9,7 +9,7 @@ use coupling::Coupling;
 use moves::{Context, Literals};
 use refusals::{Question, Refusal};
 use sets::IndexSet;
-use step::{Joint, Step};
+use step::{Joint, Step, joint_changes};
 use task::Task;
 use task_command::next;
 
@@ -86,7 +86,7 @@ impl<C: Coupling> Stop<'_, C> {
 
     // The first fluent that the moves of the step make true and false.
     fn torn(&self) -> Option<Found> {
-        let Literals { plain, negated } = self.joint.joint_changes(self.context);
+        let Literals { plain, negated } = joint_changes(self.joint.task, self.context);
         let both = plain.intersection(negated);
         let fluent = (0..self.joint.task.fluents()).find(|k| both.contains(*k))?;
         let results = |a| self.joint.task.results(a, self.context);

@@ -6,8 +6,8 @@ use crate::causes::in_task;
 use crate::ending::{Ended, Trouble};
 use crate::excerpt::Excerpt;
 use crate::files::read_file;
-use crate::refused::{Found, Reason, Source};
-use crate::tasks::{Sizes, TaskInWords};
+use crate::refused::{Found, Reason, Source, refuse};
+use crate::tasks::{FULL, SHORT, Sizes, TaskInWords};
 use refusals::{Fault, Question, Refusal};
 use std::io;
 use task::Task;
@@ -35,15 +35,14 @@ fn refuse_task(rt: &HostRuntime, file: &[u8], fault: Fault) -> Result<Ended, Tro
         Question::Limit => Some(Found::Past(offset)),
         _ => in_task(file, refusal),
     };
+    let excerpt = Some(Excerpt { file, offset });
     let reason = Reason {
         refusal,
         source,
         found,
+        excerpt,
     };
-    let excerpt = Excerpt { file, offset };
-    let hint = reason.hint();
-    println!(rt; "{reason}\n{excerpt}\nhint: {hint}")?;
-    Ok(Ended::Refused)
+    refuse(rt, reason)
 }
 
 // Reads the task of a file, and says something of it where it is accepted.
@@ -67,7 +66,8 @@ fn say_of_task<F: FnOnce(&Task) -> io::Result<()>>(
 // Says whether a task file is accepted.
 pub fn check_task(rt: &HostRuntime, path: &str) -> Result<Ended, Trouble> {
     say_of_task(rt, path, |task| {
-        let sizes = Sizes::short(task);
+        let style = SHORT;
+        let sizes = Sizes { task, style };
         println!(rt; "accepted: {sizes}")
     })
 }
@@ -75,7 +75,8 @@ pub fn check_task(rt: &HostRuntime, path: &str) -> Result<Ended, Trouble> {
 // Shows the task of a file.
 pub fn show_task(rt: &HostRuntime, path: &str) -> Result<Ended, Trouble> {
     say_of_task(rt, path, |task| {
-        let words = TaskInWords::full(task);
+        let style = FULL;
+        let words = TaskInWords { task, style };
         print!(rt; "{words}")
     })
 }

@@ -17,16 +17,17 @@ pub fn read_line(heap: Global, input: &mut BufReader<Stdin>) -> io::Result<Optio
     ensures short { IfOk result (λ next. IfSome next (λ line. IfOk line (λ bytes. vec_len bytes ≤ 262144))) }
 {
     let mut bytes = Vec::new(heap);
-    let mut start = input.by_ref().take(LIMIT as u64 + 1);
+    let mut start = input.by_ref().take(LIMIT as u64);
     let flaw = match start.read_until(b'\n', &mut bytes) {
         Ok(0) => return Ok(None),
-        Ok(_) => {
-            let _end = bytes.pop_if(|b| *b == b'\n');
-            if bytes.len() <= LIMIT {
-                return Ok(Some(Ok(bytes)));
-            }
-            Flaw::LongLine
+        Ok(_) if bytes.pop_if(|b| *b == b'\n').is_some() || bytes.len() < LIMIT => {
+            return Ok(Some(Ok(bytes)));
         }
+        // A line with as many bytes as it may have ends here, or is too long.
+        Ok(_) => match input.by_ref().bytes().next().transpose()? {
+            None | Some(b'\n') => return Ok(Some(Ok(bytes))),
+            Some(_) => Flaw::LongLine,
+        },
         Err(e) if e.kind() == ErrorKind::OutOfMemory => Flaw::Memory,
         Err(e) => return Err(e),
     };

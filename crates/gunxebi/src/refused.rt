@@ -1,4 +1,6 @@
 // A refusal in words: what was asked, what was found there, and what to do.
+use crate::ending::{Ended, Trouble};
+use crate::excerpt::Excerpt;
 use crate::words::{CommandInWords, Count, List};
 use refusals::{Layer, Question, Refusal};
 use std::fmt;
@@ -99,15 +101,17 @@ impl fmt::Display for Found {
     }
 }
 
-// Why something is refused: a line with what was asked, and one with what was found, where that is known.
+// Why something is refused: a line with what was asked, one with what was found, where that is known, and the bytes
+// there, where they are shown.
 #[derive(Clone, Copy)]
-pub struct Reason {
+pub struct Reason<'a> {
     pub refusal: Refusal,
     pub source: Source,
     pub found: Option<Found>,
+    pub excerpt: Option<Excerpt<'a>>,
 }
 
-impl Reason {
+impl Reason<'_> {
     // Writes what was asked and answered no, of a file or of the line.
     fn write_asked<W: fmt::Write>(&self, f: &mut fmt::Formatter<W>) -> fmt::Result {
         let source = self.source;
@@ -163,13 +167,23 @@ impl Reason {
     }
 }
 
-impl fmt::Display for Reason {
+impl fmt::Display for Reason<'_> {
     fn fmt<W: fmt::Write>(&self, f: &mut fmt::Formatter<W>) -> fmt::Result {
         write!(f, "{}: ", self.refusal)?;
         self.write_asked(f)?;
         if let Some(found) = self.found {
             write!(f, "\nfound: {found}")?;
         }
+        if let Some(excerpt) = self.excerpt {
+            write!(f, "\n{excerpt}")?;
+        }
         Ok(())
     }
+}
+
+// Says why something is refused, and what to do.
+pub fn refuse(rt: &HostRuntime, reason: Reason) -> Result<Ended, Trouble> {
+    let hint = reason.hint();
+    println!(rt; "{reason}\nhint: {hint}")?;
+    Ok(Ended::Refused)
 }

@@ -6,8 +6,8 @@ ghost use Rattle.sets.specs.Members.{members};
 use crate::causes::{Stop, in_plan, in_task};
 use crate::ending::{Ended, Trouble};
 use crate::files::read_file;
-use crate::refused::{Reason, Source};
-use crate::tasks::TaskInWords;
+use crate::refused::{Reason, Source, refuse};
+use crate::tasks::{SHORT, TaskInWords};
 use crate::verdict::judge_written;
 use crate::words::{Count, FLUENTS, List, StepInWords, plain};
 use coupling::{Coupling, Written};
@@ -29,7 +29,7 @@ fn changes(before: IndexSet, after: IndexSet) -> Literals
     }
 }
 
-// Shows the steps as far as they are allowed.
+// Shows the steps as far as they are allowed, and gives where they end.
 fn show_steps<C: Coupling>(
     rt: &HostRuntime,
     joint: &Joint<'_, '_, C>,
@@ -55,13 +55,6 @@ fn show_steps<C: Coupling>(
     }
     let moves = IndexSet::empty();
     Ok(Context { line, moves })
-}
-
-// Says why a plan does not solve.
-fn refuse(rt: &HostRuntime, reason: Reason) -> Result<Ended, Trouble> {
-    let hint = reason.hint();
-    println!(rt; "{reason}\nhint: {hint}")?;
-    Ok(Ended::Refused)
 }
 
 // Shows the plan, and then the verdict on it.
@@ -101,6 +94,7 @@ fn show_plan(
         refusal,
         source,
         found,
+        excerpt: None,
     };
     refuse(rt, reason)
 }
@@ -120,6 +114,7 @@ fn show_unread(
         refusal,
         source,
         found,
+        excerpt: None,
     };
     refuse(rt, reason)
 }
@@ -133,7 +128,10 @@ pub fn judge(rt: &HostRuntime, task_path: &str, plan_path: &str) -> Result<Ended
     let Ok(task) = Task::read(heap, &task_file) else {
         return show_unread(rt, &task_file, verdict);
     };
-    let words = TaskInWords::short(&task);
+    let words = TaskInWords {
+        task: &task,
+        style: SHORT,
+    };
     print!(rt; "{words}")?;
     show_plan(rt, &task, &plan_file, verdict)
 }

@@ -6,7 +6,7 @@ use task::Task;
 
 // The words that tasks in short and in full do not share.
 #[derive(Clone, Copy)]
-struct Style {
+pub struct Style {
     // Are things of a kind counted alone, or with their numbers?
     is_numbered: bool,
     start: &'static str,
@@ -20,7 +20,7 @@ struct Style {
     no_effects: &'static str,
 }
 
-const SHORT: Style = Style {
+pub const SHORT: Style = Style {
     is_numbered: false,
     start: "start",
     companions: MOVES,
@@ -31,7 +31,7 @@ const SHORT: Style = Style {
     no_effects: "",
 };
 
-const FULL: Style = Style {
+pub const FULL: Style = Style {
     is_numbered: true,
     start: "true at the start",
     companions: Terms {
@@ -64,7 +64,7 @@ struct Size {
 
 impl fmt::Display for Size {
     fn fmt<W: fmt::Write>(&self, f: &mut fmt::Formatter<W>) -> fmt::Result {
-        let count = Count(self.n as usize, self.thing);
+        let count = Count(usize::from(self.n), self.thing);
         match self.n {
             1 if self.is_numbered => write!(f, "{count} (0)"),
             2.. if self.is_numbered => write!(f, "{count} (0 to {})", self.n - 1),
@@ -76,14 +76,8 @@ impl fmt::Display for Size {
 // The sizes of a task: "2 stations, 3 fluents, 2 moves".
 #[derive(Drop)]
 pub struct Sizes<'a> {
-    task: &'a Task,
-    style: Style,
-}
-
-impl<'a> Sizes<'a> {
-    pub fn short(task: &'a Task) -> Sizes<'a> {
-        Sizes { task, style: SHORT }
-    }
+    pub task: &'a Task,
+    pub style: Style,
 }
 
 impl fmt::Display for Sizes<'_> {
@@ -153,18 +147,8 @@ impl fmt::Display for MoveInWords<'_> {
 // A task: its sizes, start and goal, then its moves.
 #[derive(Drop)]
 pub struct TaskInWords<'a> {
-    task: &'a Task,
-    style: Style,
-}
-
-impl<'a> TaskInWords<'a> {
-    pub fn short(task: &'a Task) -> TaskInWords<'a> {
-        TaskInWords { task, style: SHORT }
-    }
-
-    pub fn full(task: &'a Task) -> TaskInWords<'a> {
-        TaskInWords { task, style: FULL }
-    }
+    pub task: &'a Task,
+    pub style: Style,
 }
 
 impl fmt::Display for TaskInWords<'_> {

@@ -9,7 +9,7 @@ ghost use Rattle.plan.specs.Form.{ranged, own, placed, formed, joint_form, Reads
 use crate::command::{JointCommand, next};
 use refusals::{Fault, Question, Refusal};
 use std::alloc::Global;
-use step::{Step, named};
+use step::{Step, move_named};
 use task::Task;
 
 // The most bytes that a joint plan may have: 256 steps.
@@ -21,14 +21,14 @@ fn in_range(moves: u8, operands: &[u8]) -> bool
 {
     operands
         .iter()
-        .all(|operand| named(*operand).is_none_or(|a| a < moves))
+        .all(|operand| move_named(*operand).is_none_or(|a| a < moves))
 }
 
 // Is the operand none, or a move of this station?
 fn is_own(task: &Task, station: usize, operand: u8) -> bool
     ensures { result ≡ own (line_of task.now) station operand }
 {
-    named(operand).is_none_or(|a| task
+    move_named(operand).is_none_or(|a| task
         .station(a)
         .is_some_and(|found| usize::from(found) == station))
 }

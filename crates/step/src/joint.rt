@@ -11,6 +11,27 @@ use refusals::Question;
 use sets::IndexSet;
 use task::Task;
 
+// Do the needs of some move of the step not hold?
+pub fn some_unready(task: &Task, context: Context) -> bool
+    ensures { result ≡ is_unready (line_of task.now) (members context.line) (members context.moves) }
+{
+    (0..task.moves()).any(|a| context.moves.contains(a) && !task.ready(a, context.line))
+}
+
+// What the triggered effects of the step's moves make true and false together.
+pub fn joint_changes(task: &Task, context: Context) -> Literals
+    ensures made { members result.plain ≡ is_made (line_of task.now) (members context.line) (members context.moves) }
+    ensures unmade { members result.negated ≡ is_unmade (line_of task.now) (members context.line) (members context.moves) }
+{
+    let mut changes = Literals::empty();
+    for a in 0..task.moves() {
+        if context.moves.contains(a) {
+            changes = changes.union(task.results(a, context));
+        }
+    }
+    changes
+}
+
 // What whole steps are asked of, both lent.
 #[derive(Drop)]
 pub struct Joint<'t, 'c, C> {
@@ -33,14 +54,6 @@ impl<'t, 'c, C: Coupling> Joint<'t, 'c, C> {
         (0..self.task.moves()).any(|b| self.coupling.bars(a, b) && moves.contains(b))
     }
 
-    // Do the needs of some move of the step not hold?
-    pub fn some_unready(&self, context: Context) -> bool
-        ensures { result ≡ is_unready (line_of self.now.task.now) (members context.line) (members context.moves) }
-    {
-        (0..self.task.moves()).any(|a| context.moves.contains(a)
-            && !self.task.ready(a, context.line))
-    }
-
     // Does some move of the step need one that is not in it?
     pub fn some_lack(&self, moves: IndexSet) -> bool
         ensures { result ≡ is_lacking (line_of self.now.task.now) (C.relations self.now.coupling.now) (members moves) }
@@ -55,25 +68,11 @@ impl<'t, 'c, C: Coupling> Joint<'t, 'c, C> {
         (0..self.task.moves()).any(|a| moves.contains(a) && self.clashes(moves, a))
     }
 
-    // What the triggered effects of the step's moves make true and false together.
-    pub fn joint_changes(&self, context: Context) -> Literals
-        ensures made { members result.plain ≡ is_made (line_of self.now.task.now) (members context.line) (members context.moves) }
-        ensures unmade { members result.negated ≡ is_unmade (line_of self.now.task.now) (members context.line) (members context.moves) }
-    {
-        let mut changes = Literals::empty();
-        for a in 0..self.task.moves() {
-            if context.moves.contains(a) {
-                changes = changes.union(self.task.results(a, context));
-            }
-        }
-        changes
-    }
-
     // The fluents after the step, or the first question answered no.
     pub fn step_from(&self, context: Context) -> Result<IndexSet, Question>
         ensures { Performed (line_of self.now.task.now) (C.relations self.now.coupling.now) (members context.line) (members context.moves) result }
     {
-        if self.some_unready(context) {
+        if some_unready(self.task, context) {
             return Err(Question::Needs);
         }
         if self.some_lack(context.moves) {
@@ -85,7 +84,7 @@ impl<'t, 'c, C: Coupling> Joint<'t, 'c, C> {
         let Literals {
             plain: made,
             negated: unmade,
-        } = self.joint_changes(context);
+        } = joint_changes(self.task, context);
         if made.intersection(unmade).any_below(self.task.fluents()) {
             return Err(Question::Agree);
         }

@@ -6,5 +6,5 @@ mod joint;
 mod record;
 mod rule;
 
-pub use joint::Joint;
-pub use record::{Step, named};
+pub use joint::{Joint, joint_changes, some_unready};
+pub use record::{Step, move_named};

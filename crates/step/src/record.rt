@@ -1,7 +1,7 @@
 // The record of a step: one operand a station.
 ghost use Rattle.std.specs.Prelude.{◌≡◌};
 ghost use Rattle.sets.specs.Members.{members};
-ghost use Rattle.step.specs.Operands.{move_named, operand};
+ghost use Rattle.step.specs.Operands.{move_named as named, operand};
 ghost use Rattle.step.specs.Views.{operands_of, moves_of};
 
 use sets::IndexSet;
@@ -10,8 +10,8 @@ use sets::IndexSet;
 const NONE: u8 = 0xff;
 
 // The move that an operand names, if it names one.
-pub fn named(operand: u8) -> Option<u8>
-    ensures { result ≡ move_named operand }
+pub fn move_named(operand: u8) -> Option<u8>
+    ensures { result ≡ named operand }
 {
     (operand != NONE).then_some(operand)
 }
@@ -37,7 +37,7 @@ impl Step {
     {
         self.operands
             .get(usize::from(station))
-            .and_then(|operand| named(*operand))
+            .and_then(|operand| move_named(*operand))
     }
 
     // The moves that the operands name.
