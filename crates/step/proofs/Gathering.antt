@@ -1,24 +1,17 @@
 -- Members gathered one after the other, by a number that counts up or along a list of operands. Assumes nothing.
 use Rattle.std.proofs.Common.{◌≡◌, ℕ, ◌+◌, ◌<◌, ◌≤◌, Bool, true, false, cond, ◌&&◌, ◌||◌, eqb, ltb, List, length, get_or, drop, sym, refl, ap, ◌∙◌, add-one, arith, drop-cons}
 use mathlib.Core.Path.{fun_ext}
+use Rattle.std.proofs.Math.Bool.{or-false, or_comm}
 use Rattle.std.proofs.lemmas.List.{drop_all}
 use Rattle.std.proofs.lemmas.Bool.{lt-ltb}
 use Rattle.std.proofs.lemmas.Bool.Decides.{nat_tests}
 use Rattle.model.specs.Sets.{Set, none, any, with, either}
 use Rattle.step.specs.Operands.{named}
 
-or_false : (x : Bool) → (x || false) ≡ x
-or_false true = refl
-or_false false = refl
-
 -- `y` holds what f gives at the numbers of S below a
 module _ (f : ℕ → Set) (S y : Set) (a : ℕ) (so_far : y ≡ (λ k. any a (λ b. S b && f b k))) where
   pub gather_more : (z : Set) → true ≡ S a → z ≡ either y (f a) → z ≡ (λ k. any (a + 1) (λ b. S b && f b k))
   gather_more z chosen more = more ∙ fun_ext (λ k. rw (add-one a, ← chosen, so_far) (or_comm (any a (λ b. S b && f b k)) (f a k)))
-    where
-      or_comm : (p q : Bool) → (p || q) ≡ (q || p)
-      or_comm true q = sym (grind arith)
-      or_comm false q = sym (or_false q)
 
   pub gather_skip : (z : Set) → false ≡ S a → z ≡ y → z ≡ (λ k. any (a + 1) (λ b. S b && f b k))
   gather_skip z absent same = same ∙ so_far ∙ fun_ext (λ k. rw (add-one a, ← absent) refl)
@@ -51,4 +44,4 @@ module _ (bs : List ℕ) (i : ℕ) (all whole : Set) (inv : either all (named (d
       at s x a t e = grind arith
 
 pub named_all : (bs : List ℕ) (i : ℕ) (all whole : Set) → either all (named (drop i bs)) ≡ whole → length bs ≤ i → all ≡ whole
-named_all bs i all whole inv end = fun_ext (λ k. sym (or_false (all k))) ∙ (rw (drop_all i bs end) at inv)
+named_all bs i all whole inv end = fun_ext (λ k. sym (or-false (all k))) ∙ (rw (drop_all i bs end) at inv)
