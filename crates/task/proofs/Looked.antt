@@ -3,27 +3,22 @@ use Rattle.std.proofs.Common.{◌≡◌, ℕ, ◌<◌, ◌≤◌, true, List, ma
 use lib.ListN.{length-map}
 use Rattle.std.specs.Slice.{IsGetResult}
 use Rattle.std.proofs.lemmas.List.{get_or-map, get_or_past}
-use Rattle.std.proofs.lemmas.Bool.{and_from, false≢true}
+use Rattle.std.proofs.lemmas.Bool.{and_from}
 use Rattle.model.specs.Sets.{Set, none, no_literals, holds}
 use Rattle.model.specs.Task as model
 use Rattle.model.specs.Task.{move_at, no_move}
-use Rattle.sets.proofs.Laws.{decides_subset, decides_apart}
+use Rattle.sets.proofs.Laws.{none_subset, decides_apart}
 use Rattle.moves.specs.Parts.{move_of}
 use Rattle.moves.specs.declared.parts.Move.{Move}
 
 pub holds_none : (s : Set) → holds no_literals s ≡ true
-holds_none s =
-    and_from _ _ ((decides_subset none s).1 (λ k l e. absurd (false≢true e))) ((decides_apart s none).1 (λ k l e. refl))
+holds_none s = and_from _ _ (none_subset s) ((decides_apart s none).1 (λ k l e. refl))
 
 -- what a lookup in the task's list finds
 pub found_move : (ms vs : List Move) (a : ℕ) (r : Option (Bor Move)) → vs ≡ ms → IsGetResult vs a a r
     → MatchOption r (length (map move_of ms) ≤ a) (λ m. (a < length (map move_of ms)) × (move_of m.now ≡ move_at (map move_of ms) a))
-found_move ms vs a None e item = let n = length-map ms move_of in let l = ap length e in omega (arith, item.3)
-found_move ms vs a (Some x) e item =
-    let n = length-map ms move_of in
-    let l = ap length e in
-    let low : a < length vs = item.3.0 in
-    (omega arith, ap move_of item.1 ∙ sym (get_or-map move_of vs a x.now _ low) ∙ ap (λ (ys : List Move). move_at (map move_of ys) a) e)
+found_move ms vs a None e item = rw (← e) (omega (arith, item.3, length-map vs move_of))
+found_move ms vs a (Some x) e item = rw (← e) (omega (arith, item.3.0, length-map vs move_of), ap move_of item.1 ∙ sym (get_or-map move_of vs a x.now _ item.3.0))
 
 -- what a call v says of the move that is looked up, or of no move, it says of the move of the line
 module _ {X R : Type 0} (f : model.Move → X) (see : R → X) (ms : List model.Move) (a : ℕ) (v d : R) where
