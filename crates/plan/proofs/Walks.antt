@@ -1,11 +1,9 @@
 -- What a turn of the reader keeps: the steps so far, with those of what is left, are the whole file's.
-use Rattle.std.proofs.Common.{◌≡◌, ℕ, zero, suc, ◌-◌, ◌<◌, ◌≤◌, cond, List, [], ◌∷◌, ◌++◌, map, length, Ok, Err, Result, sym, refl, ap, ◌∙◌, append_assoc, append-nil, arith, le-ltb, lt-ltb}
+use Rattle.std.proofs.Common.{◌≡◌, ℕ, zero, suc, ◌-◌, ◌<◌, ◌≤◌, List, [], ◌∷◌, ◌++◌, length, Ok, Err, Result, sym, refl, ap, ◌∙◌, append_assoc, append-nil, arith, le-ltb, lt-ltb}
 use Rattle.refusals.specs.declared.Question.TheVariants.{Limit}
 use Rattle.refusals.specs.declared.Refusal.{Refusal}
-use Rattle.refusals.specs.Answers.{refusal, refused, and_then, seen}
+use Rattle.refusals.specs.Answers.{refusal, and_then, seen}
 use Rattle.model.specs.Line.{Line}
-use Rattle.step.specs.Views.{operands_of}
-use Rattle.step.specs.declared.record.Step.{Step}
 use Rattle.plan.specs.Commands.{first}
 use Rattle.plan.specs.Form.{formed, steps, joint_form}
 
@@ -83,16 +81,8 @@ module _ (L : Line) (whole : Result Steps Refusal) (size : ℕ) (done : Steps) w
 -- a file within the limit gives what its walk gives
 pub form_from : (L : Line) (bs : List ℕ) (r : Result Steps Refusal) → length bs ≤ 4352 → steps (length bs) L (length bs) bs ≡ r → joint_form L bs ≡ r
 unfolding joint_form
-form_from L bs r h e = ap (λ t. cond t (refused Limit 0) (steps (length bs) L (length bs) bs)) (le-ltb 4352 (length bs) h) ∙ e
+form_from L bs r h e = rw (le-ltb 4352 (length bs) h) e
 
 pub over_limit : (L : Line) (bs : List ℕ) (e : Refusal) → 4352 < length bs → e ≡ refusal Limit 0 → joint_form L bs ≡ Err e
 unfolding joint_form
-over_limit L bs e h r = ap (λ t. cond t (refused Limit 0) (steps (length bs) L (length bs) bs)) (lt-ltb 4352 (length bs) h) ∙ ap Err (sym r)
-
--- one step more in the reader's list
-pub mapped_push : (ss ss' : List Step) (s : Step) → ss' ≡ ss ++ (s ∷ []) → map operands_of ss' ≡ map operands_of ss ++ (operands_of s ∷ [])
-mapped_push ss ss' s e = ap (map operands_of) e ∙ at ss
-  where
-    at : (xs : List Step) → map operands_of (xs ++ (s ∷ [])) ≡ map operands_of xs ++ (operands_of s ∷ [])
-    at [] = refl
-    at (x ∷ xs) = ap (λ ys. operands_of x ∷ ys) (at xs)
+over_limit L bs e h r = rw (lt-ltb 4352 (length bs) h, r) refl

@@ -1,7 +1,7 @@
 // Sets of small numbers: fluents, moves or stations.
 // Knows that a set is kept as the bits of one number, which no other crate sees: contracts speak of members.
 // Inner to the workspace: `insert` presumes a number that fits, and every caller is proved.
-#![tactic(auto)]
+#![tactic(auto, using(crate::proofs::Bits::laws), unfolding(crate::specs::Members::bit))]
 
 ghost use Rattle.std.specs.Prelude.{◌≡◌, ◌<◌};
 ghost use Rattle.model.specs.Sets.{none, with, either, meet, minus, below as under, subset, apart, any};

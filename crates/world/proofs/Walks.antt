@@ -1,17 +1,12 @@
 -- A list of steps leads to one state at most, and has one answer. Assumes nothing.
-use Rattle.std.proofs.Common.{◌≡◌, ℕ, Bool, true, false, zero, suc, ◌+◌, ◌<◌, ◌≤◌, List, [], ◌∷◌, ◌++◌, length, get_or, take, drop, Ok, Err, Result, sym, refl, ap, ◌∙◌, subst, inl, inr, arith, take_all, drop-cons}
+use Rattle.std.proofs.Common.{◌≡◌, ℕ, true, zero, suc, ◌+◌, ◌<◌, List, [], ◌∷◌, ◌++◌, length, get_or, take, drop, Ok, Err, Result, sym, refl, ap, ◌∙◌, subst, inl, inr, drop-cons}
 use Rattle.std.specs.Result.{MatchResult, is_ok}
+use Rattle.std.proofs.lemmas.Bool.{true≢false}
 use Rattle.std.proofs.lemmas.List.{take_more}
 use Rattle.refusals.specs.declared.Question.{Question}
 use Rattle.refusals.specs.declared.Refusal.{Refusal}
 use Rattle.refusals.specs.Answers.{refusal}
 use Rattle.world.specs.Plans.{Leads, Performs, Stops, Solves, Fails, Judged}
-
-ok_err : {X E : Type 0} (r : Result X E) (x : X) (e : E) → r ≡ Ok x → r ≡ Err e → ⊥
-ok_err r x e p q = let z : ◌≡◌ {A = ℕ} 0 1 = cc in omega arith
-
-nil_cons : {X : Type 0} (x : X) (xs : List X) → [] ≡ x ∷ xs → ⊥
-nil_cons x xs p = let z : ◌≡◌ {A = ℕ} 0 1 = cc in omega arith
 
 module _ {S A : Type 0} (next : S → A → Result S Question) where
   -- one step more
@@ -31,15 +26,12 @@ module _ {S A : Type 0} (next : S → A → Result S Question) where
   -- a step that was performed, and one whose question became the refusal f of the place i
   pub goes : (s t : S) (a : A) (r : Result (Unit {0}) Question) → Performs next s a r t → true ≡ is_ok r → next s a ≡ Ok t
   goes s t a (Ok x) p ok = p
-  goes s t a (Err e) p ok = let z : ◌≡◌ {A = Bool} true false = ok in absurd (grind arith)
+  goes s t a (Err e) p ok = absurd (true≢false ok)
 
   pub stops : (s t : S) (xs : List A) (i : ℕ) (was : S) (a : A) (r : Result (Unit {0}) Question) (f : Refusal) (gives : Question → Type 0) → i < length xs → a ≡ get_or xs i a → Leads next s (take i xs) was → Performs next was a r t
       → MatchResult r (λ x. ◌≡◌ {A = Result (Unit {0}) Refusal} (Err f) (Ok x)) gives → ((e : Question) → gives e → f ≡ refusal e i) → Stops next s xs f
-  stops s t xs i was a (Ok x) f gives within read l p m k = absurd (let z : ◌≡◌ {A = ℕ} 0 1 = cc in omega arith)
-  stops s t xs i was a (Err e) f gives within read l p m k = subst (λ g. Stops next s xs g) (sym (k e m)) (stops_here s xs i was a e within read l p.0)
-
-  pub leads_all : (s : S) (xs : List A) (i : ℕ) (t : S) → length xs ≤ i → Leads next s (take i xs) t → Leads next s xs t
-  leads_all s xs i t h l = subst (λ ys. Leads next s ys t) (take_all i xs h) l
+  stops s t xs i was a (Ok x) f gives within read l p m k = absurd (cc)
+  stops s t xs i was a (Err e) f gives within read l p m k = rw (k e m) (stops_here s xs i was a e within read l p.0)
 
   leads_same : (s : S) (xs : List A) (t u : S) → Leads next s xs t → Leads next s xs u → t ≡ u
   leads_same s [] t u l m = sym l ∙ m
@@ -56,16 +48,16 @@ module _ {S A : Type 0} (next : S → A → Result S Question) where
   First s (x ∷ xs) (suc i) e = (u : S) × (next s x ≡ Ok u) × First u xs i e
 
   first : (s : S) (xs : List A) (i : ℕ) (e : Question) → Stops next s xs (record { place = i; question = e }) → First s xs i e
-  first s [] zero e h = nil_cons _ _ h.4
-  first s [] (suc i) e h = nil_cons _ _ h.4
+  first s [] zero e h = let q = h.4 in cc
+  first s [] (suc i) e h = let q = h.4 in cc
   first s (x ∷ xs) zero e h = let p = h.3 in let n = h.4 in let q = h.5 in cc
   first s (x ∷ xs) (suc i) e h = (h.3.0, h.3.1, first h.3.0 xs i e (h.0, h.1, h.2, h.3.2, h.4, h.5))
 
   first_same : (s : S) (xs : List A) (i j : ℕ) (e f : Question) → First s xs i e → First s xs j f → (i ≡ j) × (e ≡ f)
   first_same s [] i j e f h k = absurd h
   first_same s (x ∷ xs) zero zero e f h k = (refl, cc)
-  first_same s (x ∷ xs) zero (suc j) e f h k = absurd (ok_err _ _ _ k.1 h)
-  first_same s (x ∷ xs) (suc i) zero e f h k = absurd (ok_err _ _ _ h.1 k)
+  first_same s (x ∷ xs) zero (suc j) e f h k = absurd (let q = k.1 in cc)
+  first_same s (x ∷ xs) (suc i) zero e f h k = absurd (let q = h.1 in cc)
   first_same s (x ∷ xs) (suc i) (suc j) e f h k =
       let p = h.1 in
       let q = k.1 in
@@ -75,7 +67,7 @@ module _ {S A : Type 0} (next : S → A → Result S Question) where
 
   first_leads : (s : S) (xs : List A) (i : ℕ) (e : Question) (t : S) → First s xs i e → Leads next s xs t → ⊥
   first_leads s [] i e t h l = h
-  first_leads s (x ∷ xs) zero e t h l = ok_err _ _ _ l.1 h
+  first_leads s (x ∷ xs) zero e t h l = let q = l.1 in cc
   first_leads s (x ∷ xs) (suc i) e t h l =
       let p = h.1 in
       let q = l.1 in
@@ -91,7 +83,9 @@ module _ {S A : Type 0} (next : S → A → Result S Question) where
     solves_fails f h (inl k) = stops_leads s xs f h.0 k h.1
     solves_fails f h (inr k) =
         let same = leads_same s xs h.0 k.0 h.1 k.1 in
-        ok_err _ _ _ h.2 (ap ends same ∙ k.2)
+        let p = h.2 in
+        let q = k.2 in
+        cc
 
     fails_same : (f g : Refusal) → Fails next ends s xs f → Fails next ends s xs g → f ≡ g
     fails_same f g (inl h) (inl k) =
@@ -111,13 +105,13 @@ module _ {S A : Type 0} (next : S → A → Result S Question) where
     judged_ok h = record {
       accepted = λ _. h;
       accepts = λ _. refl;
-      refused = λ f e. absurd (ok_err _ _ _ refl e);
+      refused = λ f e. absurd (cc);
       refuses = λ f k. absurd (solves_fails f h k);
     }
 
     pub judged_err : (f : Refusal) → Fails next ends s xs f → Judged next ends s xs (Err f)
     judged_err f h = record {
-      accepted = λ e. absurd (ok_err _ _ _ e refl);
+      accepted = λ e. absurd (cc);
       accepts = λ k. absurd (solves_fails f k h);
       refused = λ g e. let same : f ≡ g = cc in subst (λ x. Fails next ends s xs x) same h;
       refuses = λ g k. ap Err (fails_same f g h k);
@@ -126,5 +120,5 @@ module _ {S A : Type 0} (next : S → A → Result S Question) where
     -- the answer at the end, where the question became a refusal of the count of steps
     pub judged_end : (t : S) (r : Result (Unit {0}) Question) (v : Result (Unit {0}) Refusal) (gives : Question → Type 0) → Leads next s xs t → r ≡ ends t
         → MatchResult r (λ x. v ≡ Ok x) gives → ((e : Question) → gives e → v ≡ Err (refusal e (length xs))) → Judged next ends s xs v
-    judged_end t (Ok x) v gives l e m k = subst (λ w. Judged next ends s xs w) (sym m) (judged_ok (t, l, sym e))
-    judged_end t (Err q) v gives l e m k = subst (λ w. Judged next ends s xs w) (sym (k q m)) (judged_err (refusal q (length xs)) (inr (t, l, sym e, refl)))
+    judged_end t (Ok x) v gives l e m k = rw m (judged_ok (t, l, sym e))
+    judged_end t (Err q) v gives l e m k = rw (k q m) (judged_err (refusal q (length xs)) (inr (t, l, sym e, refl)))

@@ -1,10 +1,7 @@
-use Rattle.std.proofs.Common.{sym, rules}
+use Rattle.std.proofs.Common.{rules}
 use Rattle.std.proofs.lemmas.Result.{err_from_is_err_and}
-use Rattle.world.proofs.Walks.{leads_more, leads_all, goes, stops}
+use Rattle.world.proofs.Walks.{leads_more, goes, stops}
 use Rattle.world.proofs.run.Goals as goal
-
-pub loop-i-init : goal.loop-i-init
-loop-i-init g c = sym c.start-state.ensures
 
 pub loop-i-preserved : goal.loop-i-preserved
 loop-i-preserved g c =
@@ -15,6 +12,3 @@ returns-in_err-map_err g c =
     let p = err_from_is_err_and c.from_residual.result c.from_residual.ensures.1 in
     rw (p.1, p.2)
     (stops _ _ _ _ c.loop-i.i-counter _ _ c.perform.result _ _ c.loop-i-test.true c.index-steps-i.is c.loop-i.invariant c.perform.ensures c.in_err-map_err.ensures.cases (λ e k. search rules))
-
-pub returns : goal.returns
-returns g c = leads_all _ _ _ _ _ c.loop-i-test.false c.loop-i.invariant

@@ -1,8 +1,9 @@
-use Rattle.std.proofs.Common.{map, vec_items, ap, arith, true-eqb, false-eqb}
+use Rattle.std.proofs.Common.{map, vec_items, ap, ◌∙◌, arith, true-eqb, false-eqb}
+use Rattle.std.proofs.lemmas.List.{map_push}
 use Rattle.std.proofs.lemmas.Result.{err_from_is_err_and}
 use Rattle.task.specs.Views.{line_of}
 use Rattle.step.specs.Views.{operands_of}
-use Rattle.plan.proofs.Walks.{all_left, none_left, stops_first, stops_step, goes_on, form_from, over_limit, mapped_push}
+use Rattle.plan.proofs.Walks.{all_left, none_left, stops_first, stops_step, goes_on, form_from, over_limit}
 use Rattle.plan.proofs.form.read_joint.Goals as goal
 
 pub returns-then-file-gt-LIMIT : goal.returns-then-file-gt-LIMIT
@@ -34,7 +35,7 @@ loop-rest-preserved c =
     let got = c.in_ok-command.ensures in (
       omega arith,
       goes_on L _ _ _ _ c.loop-rest.invariant.1 _ _ got.value got.shorter _ _ c.in_ok-read_step.ensures
-          (mapped_push (vec_items c.loop-rest.steps) _ _ c.in_ok-push.ensures.items),
+          (ap (map operands_of) c.in_ok-push.ensures.items ∙ map_push operands_of (vec_items c.loop-rest.steps) _),
     )
 
 pub returns : goal.returns

@@ -1,12 +1,13 @@
-use Rattle.std.proofs.Common.{rules, arith, sym, ap, ◌∙◌, length-drop}
-use Rattle.std.proofs.lemmas.List.{drop_more}
+use Rattle.std.proofs.Common.{refl, sym, ap, ◌∙◌}
+use Rattle.std.proofs.lemmas.List.{drop_more, drop_all}
 use Rattle.moves.specs.Lists.{literals_of}
-use Rattle.moves.proofs.Gathered.{effects_none, effects_more, effects_skip, effects_all}
+use Rattle.moves.proofs.Lits.{both_none}
+use Rattle.moves.proofs.Gathered.{effects_more, effects_skip}
 use Rattle.moves.proofs.parts.Move.results.Goals as goal
 use Rattle.moves.proofs.parts.Move.results.Goals.{then-triggered, else-triggered}
 
 pub loop-effect-init : goal.loop-effect-init
-loop-effect-init c = search (rules, effects_none)
+loop-effect-init c = rw (c.empty-all.ensures, c.deref-effect-items.ensures.value) refl
 
 pub loop-effect-preserved : goal.loop-effect-preserved
 loop-effect-preserved c =
@@ -19,4 +20,4 @@ loop-effect-preserved c =
     ]
 
 pub returns : goal.returns
-returns c = effects_all _ _ _ _ _ c.loop-effect.invariant (simp length-drop (omega arith))
+returns c = sym (both_none _) ∙ (rw (drop_all c.loop-effect.effect-index c.deref-effect-items.result.now c.loop-effect-test.false) at c.loop-effect.invariant)

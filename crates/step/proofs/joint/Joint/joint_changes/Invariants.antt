@@ -1,13 +1,13 @@
-use Rattle.std.proofs.Common.{◌≡◌, ◌&&◌}
-use Rattle.model.specs.Sets.{any}
+use Rattle.std.proofs.Common.{◌≡◌, ℕ, ◌&&◌}
+use Rattle.model.specs.Sets.{any, Literals}
+use Rattle.model.specs.Task.{move_at, results}
 use Rattle.sets.specs.Members.{members}
-use Rattle.task.specs.Views.{line_of}
+use Rattle.moves.specs.Lists.{literals_of}
+use Rattle.task.specs.Views.{task_of}
 use Rattle.step.proofs.joint.Joint.joint_changes.Given as goal
 
 -- what the moves below a give
 abbrev pub invariant-loop-a : goal.invariant-loop-a
 invariant-loop-a g l =
-    let L = line_of l.self.task.now in
-    let s = members l.context.line in
-    let S = members l.context.moves in
-    (members l.changes.plain ≡ (λ k. any l.a (λ b. S b && L.sets s S b k))) × (members l.changes.negated ≡ (λ k. any l.a (λ b. S b && L.clears s S b k)))
+    let gives : ℕ → Literals = λ b. results (move_at (task_of l.self.task.now).moves b).effects (members l.context.line) (members l.context.moves) in
+    literals_of l.changes ≡ (λ s k. any l.a (λ b. members l.context.moves b && gives b s k))

@@ -1,28 +1,22 @@
 -- The file that was read denotes the task, and so the laws of task files hold.
-use Rattle.std.proofs.Common.{Ok, arith}
+use Rattle.std.proofs.Common.{ℕ, List, Ok, Err, arith}
 use Rattle.std.proofs.lemmas.Result.{err_from_is_err_and}
-use Rattle.task_file.specs.Views.{task_in}
+use Rattle.refusals.specs.declared.Fault.{Fault}
+use Rattle.refusals.specs.declared.Fault.TheVariants.{Refused, Memory}
+use Rattle.task_form.specs.Form.{form}
 use Rattle.task_form.proofs.Lawful.{lawful}
-use Rattle.task.proofs.Lawful.{reads_fault, no_text_fault, placed_fault}
+use Rattle.task_file.specs.Views.{task_in, Reads}
+use Rattle.task.specs.Views.{Texts}
 use Rattle.task.proofs.task.Task.read.Goals as goal
 
-pub invariant_of-result : goal.invariant_of-result
-invariant_of-result c = let got = c.in_ok-lists.ensures.exact in record { complete = got.1; filed = ∣ (c.args.file.now, got.0) ∣₁ }
+no_text : (bs : List ℕ) (e : Fault) → Reads (form bs) (Err e) → Texts bs (Err e)
+no_text bs (Refused e) h = (lawful bs (Err e) h).0
+no_text bs Memory h = tt
 
-pub returns-in_err-lists : goal.returns-in_err-lists
-returns-in_err-lists c =
+pub returns-in_err-lists-clause-text : goal.returns-in_err-lists-clause-text
+returns-in_err-lists-clause-text c =
     let p = err_from_is_err_and c.from_residual.result c.from_residual.ensures.1 in
-    let e = c.in_err-lists.field-0.0 in
-    let got = c.in_err-lists.ensures.exact in
-    rw (p.1, p.2)
-    record {
-      exact = reads_fault c.args.file.now e got;
-      text = no_text_fault c.args.file.now e got;
-      bounded = tt;
-      sound = tt;
-      carried = tt;
-      placed = placed_fault c.args.file.now e got;
-    }
+    rw (p.1, p.2) (no_text c.args.file.now c.in_err-lists.field-0.0 c.in_err-lists.ensures.exact)
 
 pub returns : goal.returns
 returns c =
