@@ -7,7 +7,7 @@ use crate::ending::{Ended, Trouble};
 use crate::excerpt::Excerpt;
 use crate::files::read_file;
 use crate::refused::{Found, Reason, Source, refuse};
-use crate::tasks::{FULL, SHORT, Sizes, TaskInWords};
+use crate::tasks::{Sizes, TaskInWords};
 use refusals::{Fault, Question, Refusal};
 use std::io;
 use task::Task;
@@ -66,8 +66,7 @@ fn say_of_task<F: FnOnce(&Task) -> io::Result<()>>(
 // Says whether a task file is accepted.
 pub fn check_task(rt: &HostRuntime, path: &str) -> Result<Ended, Trouble> {
     say_of_task(rt, path, |task| {
-        let style = SHORT;
-        let sizes = Sizes { task, style };
+        let sizes = Sizes::short(task);
         println!(rt; "accepted: {sizes}")
     })
 }
@@ -75,8 +74,7 @@ pub fn check_task(rt: &HostRuntime, path: &str) -> Result<Ended, Trouble> {
 // Shows the task of a file.
 pub fn show_task(rt: &HostRuntime, path: &str) -> Result<Ended, Trouble> {
     say_of_task(rt, path, |task| {
-        let style = FULL;
-        let words = TaskInWords { task, style };
+        let words = TaskInWords::full(task);
         print!(rt; "{words}")
     })
 }

@@ -20,14 +20,17 @@ pub fn read_line(heap: Global, input: &mut BufReader<Stdin>) -> io::Result<Optio
     let mut start = input.by_ref().take(LIMIT as u64);
     let flaw = match start.read_until(b'\n', &mut bytes) {
         Ok(0) => return Ok(None),
-        Ok(_) if bytes.pop_if(|b| *b == b'\n').is_some() || bytes.len() < LIMIT => {
-            return Ok(Some(Ok(bytes)));
+        Ok(_) => {
+            let _end = bytes.pop_if(|b| *b == b'\n');
+            if bytes.len() < LIMIT {
+                return Ok(Some(Ok(bytes)));
+            }
+            // A line with as many bytes as it may have ends here, or is too long.
+            match (bytes.len(), input.by_ref().bytes().next().transpose()?) {
+                (LIMIT, None | Some(b'\n')) => return Ok(Some(Ok(bytes))),
+                _ => Flaw::LongLine,
+            }
         }
-        // A line with as many bytes as it may have ends here, or is too long.
-        Ok(_) => match input.by_ref().bytes().next().transpose()? {
-            None | Some(b'\n') => return Ok(Some(Ok(bytes))),
-            Some(_) => Flaw::LongLine,
-        },
         Err(e) if e.kind() == ErrorKind::OutOfMemory => Flaw::Memory,
         Err(e) => return Err(e),
     };

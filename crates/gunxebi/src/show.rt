@@ -7,7 +7,7 @@ use crate::causes::{Stop, in_plan, in_task};
 use crate::ending::{Ended, Trouble};
 use crate::files::read_file;
 use crate::refused::{Reason, Source, refuse};
-use crate::tasks::{SHORT, TaskInWords};
+use crate::tasks::TaskInWords;
 use crate::verdict::judge_written;
 use crate::words::{Count, FLUENTS, List, StepInWords, plain};
 use coupling::{Coupling, Written};
@@ -128,10 +128,7 @@ pub fn judge(rt: &HostRuntime, task_path: &str, plan_path: &str) -> Result<Ended
     let Ok(task) = Task::read(heap, &task_file) else {
         return show_unread(rt, &task_file, verdict);
     };
-    let words = TaskInWords {
-        task: &task,
-        style: SHORT,
-    };
+    let words = TaskInWords::short(&task);
     print!(rt; "{words}")?;
     show_plan(rt, &task, &plan_file, verdict)
 }

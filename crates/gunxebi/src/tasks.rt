@@ -1,4 +1,6 @@
 // Tasks in words: in short beside a plan, or in full alone.
+ghost use Rattle.std.specs.Prelude.{◌≡◌, true, false};
+
 use crate::words::{Count, FLUENTS, List, MOVES, Terms, plain};
 use moves::{Effect, Move};
 use std::fmt;
@@ -6,7 +8,7 @@ use task::Task;
 
 // The words that tasks in short and in full do not share.
 #[derive(Clone, Copy)]
-pub struct Style {
+struct Style {
     // Are things of a kind counted alone, or with their numbers?
     is_numbered: bool,
     start: &'static str,
@@ -20,7 +22,7 @@ pub struct Style {
     no_effects: &'static str,
 }
 
-pub const SHORT: Style = Style {
+const SHORT: Style = Style {
     is_numbered: false,
     start: "start",
     companions: MOVES,
@@ -31,7 +33,7 @@ pub const SHORT: Style = Style {
     no_effects: "",
 };
 
-pub const FULL: Style = Style {
+const FULL: Style = Style {
     is_numbered: true,
     start: "true at the start",
     companions: Terms {
@@ -76,8 +78,17 @@ impl fmt::Display for Size {
 // The sizes of a task: "2 stations, 3 fluents, 2 moves".
 #[derive(Drop)]
 pub struct Sizes<'a> {
-    pub task: &'a Task,
-    pub style: Style,
+    task: &'a Task,
+    style: Style,
+}
+
+impl<'a> Sizes<'a> {
+    pub fn short(task: &'a Task) -> Sizes<'a>
+        ensures task { result.task.now ≡ task.now }
+        ensures counted { result.style.is_numbered ≡ false }
+    {
+        Sizes { task, style: SHORT }
+    }
 }
 
 impl fmt::Display for Sizes<'_> {
@@ -147,8 +158,24 @@ impl fmt::Display for MoveInWords<'_> {
 // A task: its sizes, start and goal, then its moves.
 #[derive(Drop)]
 pub struct TaskInWords<'a> {
-    pub task: &'a Task,
-    pub style: Style,
+    task: &'a Task,
+    style: Style,
+}
+
+impl<'a> TaskInWords<'a> {
+    pub fn short(task: &'a Task) -> TaskInWords<'a>
+        ensures task { result.task.now ≡ task.now }
+        ensures counted { result.style.is_numbered ≡ false }
+    {
+        TaskInWords { task, style: SHORT }
+    }
+
+    pub fn full(task: &'a Task) -> TaskInWords<'a>
+        ensures task { result.task.now ≡ task.now }
+        ensures numbered { result.style.is_numbered ≡ true }
+    {
+        TaskInWords { task, style: FULL }
+    }
 }
 
 impl fmt::Display for TaskInWords<'_> {

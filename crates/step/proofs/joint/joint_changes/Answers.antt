@@ -6,13 +6,13 @@ use Rattle.moves.specs.Lists.{literals_of}
 use Rattle.moves.proofs.Lits.{literals_ext}
 use Rattle.task.specs.Views.{task_of, line_of}
 use Rattle.step.proofs.Gathering.{gather_more, gather_skip}
-use Rattle.step.proofs.joint.Joint.joint_changes.Goals.{then-contains, else-contains}
-use Rattle.step.proofs.joint.Joint.joint_changes.Goals as goal
+use Rattle.step.proofs.joint.joint_changes.Goals.{then-contains, else-contains}
+use Rattle.step.proofs.joint.joint_changes.Goals as goal
 
 pub loop-a-preserved : goal.loop-a-preserved
-loop-a-preserved g c =
+loop-a-preserved c =
     let S = members c.args.context.moves in
-    let gives : ℕ → Literals = λ b. results (move_at (task_of c.args.self.now.task.now).moves b).effects (members c.args.context.line) S in
+    let gives : ℕ → Literals = λ b. results (move_at (task_of c.args.task.now).moves b).effects (members c.args.context.line) S in
     elim c.if-contains.branch [
       | then-contains w ↦
           gather_more gives S _ c.loop-a.a c.loop-a.invariant _ w.if-contains.ensures
@@ -21,7 +21,7 @@ loop-a-preserved g c =
     ]
 
 pub returns : goal.returns
-returns g c =
-    let e : c.loop-a.a ≡ (line_of c.args.self.now.task.now).moves = omega arith in
+returns c =
+    let e : c.loop-a.a ≡ (line_of c.args.task.now).moves = omega arith in
     let all = rw e at c.loop-a.invariant in
     record { made = ap (λ l. l true) all; unmade = ap (λ l. l false) all }
