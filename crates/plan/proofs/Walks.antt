@@ -39,7 +39,7 @@ turned L size (b ∷ bs) zero h z = absurd (omega arith)
 turned L size (b ∷ bs) (suc m) h z = (m, h, refl)
 
 pub all_left : (L : Line) (bs : List ℕ) (done : Steps) → done ≡ [] → Left L (steps (length bs) L (length bs) bs) (length bs) done bs
-all_left L bs done e = record { turns = length bs; enough = omega arith; same = ap (λ d. after_those d (steps (length bs) L (length bs) bs)) e ∙ after_none _ }
+all_left L bs done e = record { turns = length bs; enough = omega arith; same = rw e (after_none _) }
 
 module _ (L : Line) (whole : Result Steps Refusal) (size : ℕ) (done : Steps) where
   pub none_left : (rest : List ℕ) → Left L whole size done rest → length rest ≡ 0 → whole ≡ Ok done
@@ -55,17 +55,14 @@ module _ (L : Line) (whole : Result Steps Refusal) (size : ℕ) (done : Steps) w
     pub stops_first : (e : Refusal) → 0 < length rest → Err e ≡ first (size - length rest) rest → whole ≡ Err e
     stops_first e z taken =
         let t = turned L size rest l.turns l.enough z in
-        sym l.same ∙ ap (after_those done) (t.2 ∙ ap (turn t.0 L size (size - length rest)) (sym taken))
+        sym l.same ∙ rw (t.2, ← taken) refl
 
     module _ (ops after : List ℕ) (taken : Ok (ops, after) ≡ first (size - length rest) rest) (less : length after < length rest) where
-      abbrev from_here : ℕ → Result (List ℕ) Refusal → Result Steps Refusal
-      from_here n f = and_then f (λ s. seen (λ more. s ∷ more) (steps n L size after))
-
       -- the operands of the step at the front are refused
       pub stops_step : (e : Refusal) → Err e ≡ formed L (size - length rest) ops → whole ≡ Err e
       stops_step e stop =
           let t = turned L size rest l.turns l.enough (omega arith) in
-          sym l.same ∙ ap (after_those done) (t.2 ∙ ap (turn t.0 L size (size - length rest)) (sym taken) ∙ ap (from_here t.0) (sym stop))
+          sym l.same ∙ rw (t.2, ← taken, ← stop) refl
 
       pub goes_on : (s : List ℕ) (done' : Steps) → Ok s ≡ formed L (size - length rest) ops → done' ≡ done ++ (s ∷ []) → Left L whole size done' after
       goes_on s done' on more =
@@ -73,9 +70,7 @@ module _ (L : Line) (whole : Result Steps Refusal) (size : ℕ) (done : Steps) w
           record {
             turns = t.0;
             enough = omega (arith, t.1);
-            same =
-                ap (λ d. after_those d (steps t.0 L size after)) more ∙ after_one done s (steps t.0 L size after)
-                ∙ sym (sym l.same ∙ ap (after_those done) (t.2 ∙ ap (turn t.0 L size (size - length rest)) (sym taken) ∙ ap (from_here t.0) (sym on)));
+            same = rw more (after_one done s (steps t.0 L size after) ∙ (rw (t.2, ← taken, ← on) at l.same));
           }
 
 -- a file within the limit gives what its walk gives

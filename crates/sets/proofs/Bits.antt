@@ -72,7 +72,7 @@ none_any : (n : ℕ) (p : Set) → not (all n (λ k. not (p k))) ≡ any n p
 none_any zero p = refl
 none_any (suc n) p = let ih = none_any n p in grind arith
 
-pub apart_below : (n : ℕ) (q : Set) → not (apart (inside (below n)) (inside q)) ≡ any n (inside q)
+apart_below : (n : ℕ) (q : Set) → not (apart (inside (below n)) (inside q)) ≡ any n (inside q)
 apart_below n q = ap not tests ∙ none_any n (inside q)
   where
     tests : apart (inside (below n)) (inside q) ≡ all n (λ k. not (inside q k))
