@@ -1,16 +1,10 @@
--- Steps are judged as their operands are, and a call with files as one with what they hold. Assumes nothing.
-use Rattle.std.proofs.Common.{◌≡◌, List, [], ◌∷◌, map, take, Ok, Err, Result, sym, refl, ap, ◌∙◌, inl, inr}
+-- Steps are judged as their operands are. Assumes nothing.
+use Rattle.std.proofs.Common.{List, [], ◌∷◌, map, take, Ok, Err, Result, sym, refl, ap, ◌∙◌, inl, inr}
 use Rattle.std.proofs.lemmas.List.{length-map, take-map, drop-map}
 use Rattle.refusals.specs.declared.Question.{Question}
 use Rattle.refusals.specs.declared.Refusal.{Refusal}
-use Rattle.refusals.specs.declared.Fault.{Fault}
-use Rattle.refusals.specs.declared.Fault.TheVariants.{Refused, Memory}
 use Rattle.world.specs.Plans.{Leads, Solves, Fails, Judged}
 use Rattle.world.proofs.Walks.{judged_ok, judged_err}
-use Rattle.model.specs.Task as model
-use Rattle.task.specs.Views.{task_of, Reads}
-use Rattle.task.specs.declared.task.Task.{Task}
-use Rattle.sequencer.specs.Joint.{WithTask}
 
 -- a plan judged by what its steps stand for
 module _ {S A B : Type 0} (next : S → B → Result S Question) (f : A → B) where
@@ -40,16 +34,3 @@ module _ {S A B : Type 0} (next : S → B → Result S Question) (f : A → B) w
     pub judged_map : (r : Result (Unit {0}) Refusal) → Judged by ends s xs r → Judged next ends s (map f xs) r
     judged_map (Ok u) j = judged_ok next ends s (map f xs) (solves_map (j.accepted refl))
     judged_map (Err e) j = judged_err next ends s (map f xs) e (fails_map e (j.refused e refl))
-
--- a call with a task file, by what became of reading it
-module _ (f : Result model.Task Refusal) (P : model.Task → Result (Unit {0}) Fault → Type 0) (spare : (t : model.Task) → P t (Err Memory)) where
-  pub with_task : (t : Task) (r : Result (Unit {0}) Fault) → f ≡ Ok (task_of t) → P (task_of t) r → WithTask f P r
-  with_task t r e h = rw e h
-
-  pub without_task : (e : Fault) → Reads f (Err e) → WithTask f P (Err e)
-  without_task (Refused e) h = rw h refl
-  without_task Memory h = wanting f
-    where
-      wanting : (x : Result model.Task Refusal) → WithTask x P (Err Memory)
-      wanting (Ok t) = spare t
-      wanting (Err e) = tt

@@ -1,8 +1,9 @@
 -- The laws of `bit`, as the methods of a set of bits need them. Assumes nothing.
 use Rattle.std.proofs.Common.{◌≡◌, ℕ, zero, suc, ◌-◌, ◌*◌, ◌%◌, ◌^◌, ◌<◌, ◌≤◌, false, not, ◌&&◌, ◌||◌, eqb, ltb, refl, ap, ◌∙◌, ⊎_elim, arith}
-use lib.Bits.{bit_and, bit_or, bit_xor}
+use lib.Bits.{bit_and, bit_or}
+use Rattle.std.specs.Int.{w128}
 use Rattle.std.proofs.lemmas.Nat.{and_le_r, one_shl}
-use Rattle.std.proofs.lemmas.Nat.Bits.{bit_at-lt, bit_at-zero, bit_at_and, bit_at_or, bit_at_xor, bit_at-pow_same, bit_at-pow_other, bit_at_ones, bit_at_ones_above, same_from_bits_below}
+use Rattle.std.proofs.lemmas.Nat.Bits.{bit_at-lt, bit_at-zero, bit_at_and, bit_at_or, bit_at_not, bit_at-pow_same, bit_at-pow_other, bit_at_ones, bit_at_ones_above, same_from_bits_below}
 use Rattle.std.proofs.lemmas.Bool.{cases_eq, cases_lt, eqb-true, eq-eqb}
 use Rattle.std.proofs.lemmas.Bool.Decides.{nat_tests, same_from_decides, Decides-like, Decides-below_and}
 use Rattle.sets.specs.Members.{bit, inside, members}
@@ -22,9 +23,10 @@ pub bit_of_and : (a b k : ℕ) → bit (bit_and a b) k ≡ (bit a k && bit b k)
 unfolding bit
 bit_of_and a b k = grind (arith, nat_tests, bit_at_and a b k, bit_at-lt a k, bit_at-lt b k)
 
-pub bit_or_xor : (a b k : ℕ) → bit (bit_xor (bit_or a b) b) k ≡ (not (bit b k) && bit a k)
+pub bit_less : (a b k : ℕ) → k < 128 → b < 2 ^ 128 → bit (bit_and a (340282366920938463463374607431768211455 - b)) k ≡ (not (bit b k) && bit a k)
 unfolding bit
-bit_or_xor a b k = grind (arith, nat_tests, bit_at_xor (bit_or a b) b k, bit_at_or a b k, bit_at-lt a k, bit_at-lt b k)
+bit_less a b k l small =
+    grind (arith, nat_tests, bit_at_and a (340282366920938463463374607431768211455 - b) k, bit_at_not w128 b k small l, bit_at-lt a k, bit_at-lt b k)
 
 -- a power has one bit
 bit_pow : (k j : ℕ) → bit (2 ^ k) j ≡ eqb j k
@@ -88,4 +90,4 @@ pub any_apart : (s t : IndexSet) (n : ℕ) → members s ≡ meet (below 128) (b
 any_apart s t n e = ap (λ x. not (apart x (members t))) e ∙ apart_below n (bit t.bits)
 
 -- what the methods need, one lemma or two each
-pub ruleset laws = (bit_zero, bit_below, bit_full, bit_with, bit_of_or, bit_of_and, bit_or_xor, bits_within, bits_apart, any_apart, nat_tests)
+pub ruleset laws = (bit_zero, bit_below, bit_full, bit_with, bit_of_or, bit_of_and, bit_less, bits_within, bits_apart, any_apart, nat_tests)

@@ -3,7 +3,7 @@
 // Inner to the workspace: `insert` presumes a number that fits, and every caller is proved.
 #![tactic(auto, using(crate::proofs::Bits::laws), unfolding(crate::specs::Members::bit))]
 
-ghost use Rattle.std.specs.Prelude.{◌≡◌, ◌<◌};
+ghost use Rattle.std.specs.Prelude.{◌≡◌, ◌<◌, ◌≤◌};
 ghost use Rattle.model.specs.Sets.{none, with, either, meet, minus, below as under, subset, apart, any};
 ghost use Rattle.sets.specs.Members.{members};
 
@@ -21,7 +21,8 @@ impl IndexSet {
 
     // The numbers below `n`, as far as a set can hold them.
     pub fn below(n: u8) -> IndexSet
-        ensures { members result ≡ meet (under 128) (under n) }
+        ensures held { members result ≡ meet (under 128) (under n) }
+        ensures whole { n ≤ 128 → members result ≡ under n }
     {
         if n < 128 {
             IndexSet { bits: (1 << n) - 1 }
@@ -66,7 +67,7 @@ impl IndexSet {
         ensures { members result ≡ minus (members self) (members other) }
     {
         IndexSet {
-            bits: (self.bits | other.bits) ^ other.bits,
+            bits: self.bits & !other.bits,
         }
     }
 

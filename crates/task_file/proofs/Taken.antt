@@ -1,5 +1,5 @@
 -- What the code holds after a command is what the definitions say. Assumes nothing.
-use Rattle.std.proofs.Common.{◌⊎◌, inl, inr, ◌≡◌, ℕ, ◌+◌, ◌<◌, Bool, true, false, cond, ◌&&◌, List, [], ◌∷◌, ◌++◌, map, length, Ok, vec_items, vec_len, Result, sym, ap, ◌∙◌, add-one, arith, lt-ltb}
+use Rattle.std.proofs.Common.{◌⊎◌, inl, inr, ◌≡◌, ℕ, ◌+◌, ◌<◌, Bool, true, false, cond, ◌&&◌, List, [], map, length, Ok, vec_items, vec_len, Result, sym, ap, ◌∙◌, add-one, arith, lt-ltb}
 use lib.ListN.{length-map}
 use Rattle.std.proofs.lemmas.List.{map_push}
 use Rattle.refusals.specs.declared.Question.TheVariants as Q
@@ -35,9 +35,6 @@ pub extends_means : (v : Move) (e : Effect) (w : Move) → Extends v e w → mov
 extends_means v e w g =
     (λ i. record { station = g.0 i; needs = literals_of (g.1 i); companions = literals_of (g.2 i); effects = map effect_of (g.3 i) })
     ∙ ap (λ es. record { station = v.station; needs = literals_of v.needs; companions = literals_of v.companions; effects = es }) (map_push effect_of (vec_items v.effects) e)
-
-pub pushed_means : (vs ws : List Move) (v : Move) → ws ≡ vs ++ (v ∷ []) → map move_of ws ≡ map move_of vs ++ (move_of v ∷ [])
-pushed_means vs ws v e = ap (map move_of) e ∙ map_push move_of vs v
 
 pub effects_counted : (v : Move) → length (move_of v).effects ≡ vec_len v.effects
 effects_counted v = length-map (vec_items v.effects) effect_of ∙ sym v.effects.ok.0
