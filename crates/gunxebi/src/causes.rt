@@ -24,6 +24,12 @@ fn unmet(literals: Literals, set: IndexSet) -> Literals
     }
 }
 
+// What a move needs or bars of the other moves.
+fn beside(a: u8, verb: Verb, others: IndexSet) -> Found {
+    let what = List::new(MOVES, plain(others));
+    Found::Move { a, verb, what }
+}
+
 // Where the steps of a plan end: the fluents that are true there, and the moves of the step that is refused there, if
 // one is.
 #[derive(Drop)]
@@ -66,24 +72,6 @@ impl<C: Coupling> Stop<'_, C> {
         Some(Found::Move { a, verb, what })
     }
 
-    // The first move of the step that needs others than are in it.
-    fn missing(&self) -> Option<Found> {
-        let is_missing = |a, b| self.joint.coupling.needs(a, b) && !self.context.moves.contains(b);
-        let (a, others) = self.first_related(is_missing)?;
-        let verb = Verb::Needs;
-        let what = List::new(MOVES, plain(others));
-        Some(Found::Move { a, verb, what })
-    }
-
-    // The first move of the step that bars some that are in it.
-    fn barred(&self) -> Option<Found> {
-        let is_barred = |a, b| self.joint.coupling.bars(a, b) && self.context.moves.contains(b);
-        let (a, others) = self.first_related(is_barred)?;
-        let verb = Verb::Bars;
-        let what = List::new(MOVES, plain(others));
-        Some(Found::Move { a, verb, what })
-    }
-
     // The first fluent that the moves of the step make true and false.
     fn torn(&self) -> Option<Found> {
         let Literals { plain, negated } = joint_changes(self.joint.task, self.context);
@@ -97,10 +85,22 @@ impl<C: Coupling> Stop<'_, C> {
 
     // What a question finds there.
     pub fn found(&self, question: Question) -> Option<Found> {
+        let Joint { coupling, .. } = self.joint;
+        let moves = self.context.moves;
         match question {
             Question::Needs => self.unready(),
-            Question::Present => self.missing(),
-            Question::Absent => self.barred(),
+            // Needed moves that are not in the step.
+            Question::Present => {
+                let is_missing = |a, b| coupling.needs(a, b) && !moves.contains(b);
+                let (a, others) = self.first_related(is_missing)?;
+                Some(beside(a, Verb::Needs, others))
+            }
+            // Barred moves that are in it.
+            Question::Absent => {
+                let is_barred = |a, b| coupling.bars(a, b) && moves.contains(b);
+                let (a, others) = self.first_related(is_barred)?;
+                Some(beside(a, Verb::Bars, others))
+            }
             Question::Agree => self.torn(),
             Question::Goal => {
                 let what = List::new(FLUENTS, unmet(self.joint.task.goal(), self.context.line));
