@@ -47,7 +47,7 @@ LINES = {
 
 
 def functions(text):
-    for found in re.finditer(r"\bfn (\w+)(?:<[^>]*>)?\(([^)]*)\)", text):
+    for found in re.finditer(r"\bfn (\w+)(?:<[^{;]*?>)?\(([^()]*(?:\([^()]*\)[^()]*)*)\)", text):
         names = [part.split(":")[0].strip().removeprefix("mut ") for part in found.group(2).split(",") if ":" in part]
         yield found.group(1), sorted(set(names))
 
@@ -81,7 +81,8 @@ def main():
         print(f"== {title}: {len(hits)}")
         for count, what, who in hits:
             print(f"{count} {what}: {', '.join(who)}")
-    proofs = [name for name in git("ls-files").splitlines() if re.fullmatch(r"crates/\w+/proofs/.*\.antt", name)]
+    names = git("ls-tree", "-r", "--name-only", commit) if commit else git("ls-files")
+    proofs = [name for name in names.splitlines() if re.fullmatch(r"crates/\w+/proofs/.*\.antt", name)]
     answers = 0
     lines = 0
     for name in proofs:

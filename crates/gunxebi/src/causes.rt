@@ -3,11 +3,12 @@ ghost use Rattle.std.specs.Prelude.{◌≡◌};
 ghost use Rattle.model.specs.Sets.{meet, minus};
 ghost use Rattle.sets.specs.Members.{members};
 
-use crate::refused::{Found, Verb};
+use crate::ending::Trouble;
+use crate::refused::{Found, Reason, Source, Verb};
 use crate::words::{FLUENTS, List, MOVES, plain};
 use coupling::Coupling;
 use moves::{Context, Literals};
-use refusals::{Question, Refusal};
+use refusals::{Fault, Question, Refusal};
 use sets::IndexSet;
 use step::{Joint, Step, joint_changes};
 use task::Task;
@@ -117,14 +118,30 @@ fn byte(file: &[u8], offset: usize) -> Found {
 }
 
 // What a question about the form of a task finds at its place.
-pub fn in_task(file: &[u8], refusal: Refusal) -> Option<Found> {
+fn in_task(file: &[u8], refusal: Refusal) -> Option<Found> {
     if refusal.question == Question::Limit {
         return None;
     }
-    match next(file.get(refusal.place..)?, refusal.place) {
-        Ok((command, _)) => Some(Found::Command(command)),
-        Err(_) => Some(byte(file, refusal.place)),
-    }
+    let found = match next(file.get(refusal.place..)?, refusal.place) {
+        Ok((command, _)) => Found::Command(command),
+        Err(_) => byte(file, refusal.place),
+    };
+    Some(found)
+}
+
+// Why a task file is not read.
+pub fn unread(file: &[u8], fault: Fault) -> Result<Reason<'static>, Trouble> {
+    let Fault::Refused(refusal) = fault else {
+        return Err(Trouble::Memory);
+    };
+    let source = Source::Task;
+    let found = in_task(file, refusal);
+    Ok(Reason {
+        refusal,
+        source,
+        found,
+        excerpt: None,
+    })
 }
 
 // The STEP at an offset.

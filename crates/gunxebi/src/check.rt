@@ -2,11 +2,11 @@
 ghost use Rattle.std.specs.Prelude.{◌≡◌, if◌then◌else◌, nat_eq};
 ghost use Rattle.refusals.specs.Numbers.{number_of};
 
-use crate::causes::in_task;
+use crate::causes::unread;
 use crate::ending::{Ended, Trouble};
 use crate::excerpt::Excerpt;
 use crate::files::read_file;
-use crate::refused::{Found, Reason, Source, refuse};
+use crate::refused::{Found, Reason, refuse};
 use crate::tasks::{Sizes, TaskInWords};
 use refusals::{Fault, Question, Refusal};
 use std::io;
@@ -26,23 +26,18 @@ fn offender(refusal: Refusal) -> usize
 
 // Says why a task file is not read, with the bytes where it is refused.
 fn refuse_task(rt: &HostRuntime, file: &[u8], fault: Fault) -> Result<Ended, Trouble> {
-    let Fault::Refused(refusal) = fault else {
-        return Err(Trouble::Memory);
-    };
-    let offset = offender(refusal);
-    let source = Source::Task;
-    let found = match refusal.question {
-        Question::Limit => Some(Found::Past(offset)),
-        _ => in_task(file, refusal),
-    };
+    let reason = unread(file, fault)?;
+    let offset = offender(reason.refusal);
+    let found = reason.found.or(Some(Found::Past(offset)));
     let excerpt = Some(Excerpt { file, offset });
-    let reason = Reason {
-        refusal,
-        source,
-        found,
-        excerpt,
-    };
-    refuse(rt, reason)
+    refuse(
+        rt,
+        Reason {
+            found,
+            excerpt,
+            ..reason
+        },
+    )
 }
 
 // Reads the task of a file, and says something of it where it is accepted.

@@ -62,10 +62,11 @@ impl fmt::Display for Row<'_> {
     fn fmt<W: fmt::Write>(&self, f: &mut fmt::Formatter<W>) -> fmt::Result {
         let offset = self.offset;
         write!(f, "  {offset:04}")?;
-        let mut gap = "  ";
-        for b in self.bytes {
-            write!(f, "{gap}{b:02X}")?;
-            gap = " ";
+        if let [first, rest @ ..] = self.bytes {
+            write!(f, "  {first:02X}")?;
+            for b in rest {
+                write!(f, " {b:02X}")?;
+            }
         }
         Ok(())
     }

@@ -3,7 +3,7 @@ ghost use Rattle.std.specs.Prelude.{◌≡◌};
 ghost use Rattle.model.specs.Sets.{minus};
 ghost use Rattle.sets.specs.Members.{members};
 
-use crate::causes::{Stop, in_plan, in_task};
+use crate::causes::{Stop, in_plan, unread};
 use crate::ending::{Ended, Trouble};
 use crate::files::read_file;
 use crate::refused::{Reason, Source, refuse};
@@ -105,18 +105,10 @@ fn show_unread(
     file: &[u8],
     verdict: Result<(), Fault>,
 ) -> Result<Ended, Trouble> {
-    let Err(Fault::Refused(refusal)) = verdict else {
+    let Err(fault) = verdict else {
         return Err(Trouble::Memory);
     };
-    let source = Source::Task;
-    let found = in_task(file, refusal);
-    let reason = Reason {
-        refusal,
-        source,
-        found,
-        excerpt: None,
-    };
-    refuse(rt, reason)
+    refuse(rt, unread(file, fault)?)
 }
 
 // Judges the plan in one file for the task in another, and shows both.
