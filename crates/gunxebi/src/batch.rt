@@ -28,9 +28,8 @@ impl From<Fault> for Unsolved {
 }
 
 // Does the plan of a request solve its task?
-fn solve(heap: Global, line: Line) -> Result<(), Unsolved> {
-    let line = line?;
-    let request = request::read(&line)?;
+fn solve(heap: Global, line: Result<&[u8], Flaw>) -> Result<(), Unsolved> {
+    let request = request::read(line?)?;
     let task = hex::bytes(heap, request.task)?;
     let plan = hex::bytes(heap, request.plan)?;
     judge_written(heap, &task, &plan)?;
@@ -42,11 +41,12 @@ pub fn answer_all(rt: &HostRuntime) -> Result<(), Trouble> {
     let heap = rt.alloc();
     let mut input = BufReader::new(heap, rt.stdin()).map_err(|_| Trouble::Memory)?;
     let mut output = BufWriter::new(heap, rt.stdout()).map_err(|_| Trouble::Memory)?;
+    let mut line = Line::new(heap);
     for _ in 0..u64::MAX {
-        let Some(line) = read_line(heap, &mut input).map_err(Trouble::UnreadableInput)? else {
+        let Some(read) = read_line(&mut input, &mut line).map_err(Trouble::UnreadableInput)? else {
             break;
         };
-        match solve(heap, line) {
+        match solve(heap, read) {
             Ok(()) => writeln!(output, "solves")?,
             Err(unsolved) => writeln!(output, "{unsolved}")?,
         }

@@ -56,14 +56,6 @@ impl<C: Coupling> Stop<'_, C> {
         (0..self.joint.task.moves()).find(|a| self.context.moves.contains(*a) && test(*a))
     }
 
-    // The first move of the step that stands in a relation to moves of the task, and those moves.
-    fn first_related<F: Fn(u8, u8) -> bool>(&self, related: F) -> Option<(u8, IndexSet)>
-        requires { F.IsAlwaysCallable related }
-    {
-        let a = self.first_move(|a| (0..self.joint.task.moves()).any(|b| related(a, b)))?;
-        Some((a, self.moves_where(|b| related(a, b))))
-    }
-
     // The first move of the step whose needs do not hold.
     fn unready(&self) -> Option<Found> {
         let Joint { task, .. } = self.joint;
@@ -92,14 +84,14 @@ impl<C: Coupling> Stop<'_, C> {
             Question::Needs => self.unready(),
             // Needed moves that are not in the step.
             Question::Present => {
-                let is_missing = |a, b| coupling.needs(a, b) && !moves.contains(b);
-                let (a, others) = self.first_related(is_missing)?;
+                let a = self.first_move(|a| self.joint.lacks(moves, a))?;
+                let others = self.moves_where(|b| coupling.needs(a, b) && !moves.contains(b));
                 Some(beside(a, Verb::Needs, others))
             }
             // Barred moves that are in it.
             Question::Absent => {
-                let is_barred = |a, b| coupling.bars(a, b) && moves.contains(b);
-                let (a, others) = self.first_related(is_barred)?;
+                let a = self.first_move(|a| self.joint.clashes(moves, a))?;
+                let others = self.moves_where(|b| coupling.bars(a, b) && moves.contains(b));
                 Some(beside(a, Verb::Bars, others))
             }
             Question::Agree => self.torn(),

@@ -2,7 +2,7 @@
 ghost use Rattle.std.specs.Prelude.{◌≡◌, ℕ, ◌<◌, ◌∷◌, ◌++◌, length, MatchOption, ◌≢◌, slice_index};
 
 // The index of the first byte that is `b`.
-fn find(bytes: &[u8], b: u8) -> Option<usize>
+pub fn find(bytes: &[u8], b: u8) -> Option<usize>
     ensures { MatchOption result ((k : ℕ) → k < length bytes.now → slice_index bytes.now k ≢ b) (λ i. (i < length bytes.now) × (slice_index bytes.now i ≡ b) × ((k : ℕ) → k < i → slice_index bytes.now k ≢ b)) }
 {
     bytes.iter().position(|x| *x == b)

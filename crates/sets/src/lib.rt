@@ -7,9 +7,20 @@ ghost use Rattle.std.specs.Prelude.{◌≡◌, ◌<◌, ◌≤◌};
 ghost use Rattle.model.specs.Sets.{none, with, either, meet, minus, below as under, subset, apart, any};
 ghost use Rattle.sets.specs.Members.{members};
 
-#[derive(Clone, Copy, PartialEq, Eq, Debug)]
+use std::fmt;
+
+#[derive(Clone, Copy, PartialEq, Eq)]
 pub struct IndexSet {
     bits: u128,
+}
+
+// The members: "[0, 3]".
+impl fmt::Debug for IndexSet {
+    fn fmt<W: fmt::Write>(&self, f: &mut fmt::Formatter<W>) -> fmt::Result {
+        f.debug_list()
+            .entries((0..128u8).filter(|k| self.contains(*k)))
+            .finish()
+    }
 }
 
 impl IndexSet {

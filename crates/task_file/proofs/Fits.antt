@@ -1,5 +1,5 @@
 -- Numbers stay within the sizes as lists grow. Assumes nothing.
-use Rattle.std.proofs.Common.{◌≡◌, ℕ, suc, ◌+◌, ◌<◌, Bool, true, ◌&&◌, ltb, leb, List, [], ◌∷◌, ◌++◌, map, length, Ok, vec_items, vec_len, sym, refl, ap, ◌∙◌, subst, arith}
+use Rattle.std.proofs.Common.{◌≡◌, ℕ, suc, ◌+◌, ◌<◌, Bool, true, false, cond, ◌&&◌, ltb, leb, List, [], ◌∷◌, ◌++◌, map, length, Ok, vec_items, vec_len, sym, refl, ap, ◌∙◌, subst, arith}
 use lib.ListN.{length-map}
 use Rattle.std.proofs.lemmas.Bool.{and_parts, and_from, ltb-true, lt-ltb, le-leb}
 use Rattle.model.specs.Sets.{Literals, no_literals, within}
@@ -27,6 +27,12 @@ moves_push n f m [] v h g = and_from _ _ g refl
 moves_push n f m (x ∷ xs) v h g =
     let p = and_parts (move_fits n f m (move_of x)) (moves_fit n f m (map move_of xs)) h in
     and_from _ _ p.0 (moves_push n f m xs v p.1 g)
+
+-- the moves after a push, which memory may keep from joining
+pub moves_pushed : (n f m : ℕ) (vs vs' : List Move) (v : Move) (b : Bool) → moves_fit n f m (map move_of vs) ≡ true → move_fits n f m (move_of v) ≡ true
+    → vs' ≡ cond b (vs ++ (v ∷ [])) vs → moves_fit n f m (map move_of vs') ≡ true
+moves_pushed n f m vs vs' v true h g e = subst (λ (xs : List Move). moves_fit n f m (map move_of xs) ≡ true) (sym e) (moves_push n f m vs v h g)
+moves_pushed n f m vs vs' v false h g e = subst (λ (xs : List Move). moves_fit n f m (map move_of xs) ≡ true) (sym e) h
 
 -- a move that has just begun, and one that gains a literal
 pub new_stands : (n f m s : ℕ) (p q : Literals) (es : List Effect) → s < n → p ≡ no_literals → q ≡ no_literals → es ≡ []

@@ -43,6 +43,20 @@ task_in l = task_named (named_of l)
 abbrev pub sized : (n f m p : ℕ) → Result Counts Refusal
 sized n f m p = cond (up_to 16 n && (up_to 128 f && up_to 64 m)) (Ok (record { stations = n; fluents = f; moves = m })) (refused Range p)
 
+-- the lists with the part that the next command stands in
+abbrev pub reached : Lists → code.Part → Named × Stage
+reached l x = (named_of l, stage_of x)
+
+-- the fault that keeps from what one command should answer; want of memory apart
+abbrev pub Kept : Read → Fault → Type 0
+Kept want (Refused e) = want ≡ Err e
+Kept want Memory = Unit {0}
+
+-- the answer to one command, which leaves the lists l
+abbrev pub Took : Lists → Read → Result code.Part Fault → Type 0
+Took l want (Ok x) = want ≡ Ok (reached l x)
+Took l want (Err e) = Kept want e
+
 -- the answer to a whole file; want of memory apart
 abbrev pub Reads : Result model.Task Refusal → Result Lists Fault → Type 0
 Reads form (Ok l) = (form ≡ Ok (task_in l)) × (vec_len l.moves ≡ l.sizes.moves)

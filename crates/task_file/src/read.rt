@@ -4,7 +4,7 @@ ghost use Rattle.refusals.specs.Answers.{Within};
 ghost use Rattle.task_form.specs.Form.{form};
 ghost use Rattle.task_file.specs.Views.{Reads};
 
-use crate::form::{Draft, Part};
+use crate::form::Part;
 use crate::named::Lists;
 use refusals::{Fault, Question};
 use std::alloc::Global;
@@ -19,18 +19,19 @@ pub fn read_lists(heap: Global, file: &[u8]) -> Result<Lists, Fault>
     ensures exact { Reads (form file.now) result }
     ensures placed { MatchResult result (λ l. (vec_len l.moves ≡ l.sizes.moves) × (length file.now ≤ 8192)) (Within (length file.now)) }
 {
-    if file.len() > LIMIT {
+    let is_too_long = file.len() > LIMIT;
+    if is_too_long {
         return Err(Question::Limit.at(0).into());
     }
     let (command, mut rest) = next(file, 0)?;
-    let mut draft = Draft::first(heap, command)?;
+    let mut lists = Lists::first(heap, command)?;
+    let mut part = Part::Lists;
     while !rest.is_empty() {
         let place = file.len() - rest.len();
         let (command, after) = next(rest, place)?;
-        draft = draft.take(command, place)?;
+        part = lists.take(part, command, place)?;
         rest = after;
     }
-    let Draft { lists, part } = draft;
     let Part::Ended = part else {
         return Err(Question::Command.at(file.len()).into());
     };

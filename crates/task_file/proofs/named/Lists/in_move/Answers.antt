@@ -1,22 +1,24 @@
-use Rattle.std.proofs.Common.{sym, ◌∙◌, rules}
+use Rattle.std.proofs.Common.{refl}
 use Rattle.std.proofs.lemmas.Bool.{and_from}
 use Rattle.task_file.proofs.Fits.{need_stands, companion_stands, no_effect_fits}
 use Rattle.task_file.proofs.Taken.{after_move}
 use Rattle.task_file.proofs.named.Lists.in_move.Goals as goal
-use Rattle.task_file.proofs.named.Lists.in_move.Goals.{in-Need+in_ok-needs-in-Need, in-With+in_ok-companions-in-With, in-Effect}
 
-pub returns-in-Move-clause-took : goal.returns-in-Move-clause-took
-returns-in-Move-clause-took c = after_move _ _ _ c.in-Move.is _ _ c.in_ok-with_move-in-Move.ensures ∙ sym c.in_ok-in_lists-in-Move.ensures.value
+pub returns-in_ok-current-in-Need-clause-standing : goal.returns-in_ok-current-in-Need-clause-standing
+returns-in_ok-current-in-Need-clause-standing c =
+    let z = c.args.self.now.sizes in
+    need_stands z.stations z.fluents z.moves c.args.current c.requires c.in-Need.literal c.args.place _ c.in_ok-current-in-Need.ensures
 
-pub invariant_of-result : goal.invariant_of-result
-invariant_of-result c =
-    let z = c.args.self.sizes in
-    let stand = c.requires in
-    elim c.match-command.branch [
-      | in-Need+in_ok-needs-in-Need w ↦ rw w.part-is (record { standing = need_stands z.stations z.fluents z.moves c.args.current stand w.in-Need.literal c.args.place _ w.in_ok-needs-in-Need.ensures })
-      | in-With+in_ok-companions-in-With w ↦ rw w.part-is (record { standing = companion_stands z.stations z.fluents z.moves c.args.current stand w.in-With.literal c.args.place _ w.in_ok-companions-in-With.ensures })
-      | in-Effect w ↦ rw w.part-is (record { standing = and_from _ _ stand (no_effect_fits _ _ _ w.empty.ensures) })
-    ]
+pub returns-in_ok-current-in-With-clause-standing : goal.returns-in_ok-current-in-With-clause-standing
+returns-in_ok-current-in-With-clause-standing c =
+    let z = c.args.self.now.sizes in
+    companion_stands z.stations z.fluents z.moves c.args.current c.requires c.in-With.literal c.args.place _ c.in_ok-current-in-With.ensures
 
-pub returns-clause-took : goal.returns-clause-took
-returns-clause-took c = elim c.match-command.branch [ in-Need+in_ok-needs-in-Need w ↦ search rules | in-With+in_ok-companions-in-With w ↦ search rules | in-Effect w ↦ rw (w.part-is, w.in-Effect.is, w.empty.ensures) ]
+pub returns-in-Effect-clause-standing : goal.returns-in-Effect-clause-standing
+returns-in-Effect-clause-standing c = and_from _ _ c.requires (no_effect_fits _ _ _ c.empty.ensures)
+
+pub returns-in-Effect-clause-took : goal.returns-in-Effect-clause-took
+returns-in-Effect-clause-took c = rw (c.in-Effect.is, c.empty.ensures) refl
+
+pub returns-in_ok-add_move-in-Move-clause-took : goal.returns-in_ok-add_move-in-Move-clause-took
+returns-in_ok-add_move-in-Move-clause-took c = rw (after_move _ _ _ c.in-Move.is _ _ c.in_ok-add_move-in-Move.ensures) c.in_lists.ensures.took

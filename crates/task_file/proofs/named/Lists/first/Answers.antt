@@ -5,10 +5,10 @@ use Rattle.moves.proofs.Bounds.{empty_subset, empty_within}
 use Rattle.task_form.specs.Reading.{first_named}
 use Rattle.task_file.specs.Views.{counts_of}
 use Rattle.task_file.proofs.Taken.{first_lists}
-use Rattle.task_file.proofs.form.Draft.first.Goals as goal
+use Rattle.task_file.proofs.named.Lists.first.Goals as goal
 
-pub invariant_of-lists : goal.invariant_of-lists
-invariant_of-lists c = record {
+pub invariant_of-result : goal.invariant_of-result
+invariant_of-result c = record {
   begun = empty_subset _ _ c.empty.ensures;
   aimed = empty_within _ _ c.empty-2.ensures;
   fitting = rw c.new.ensures.items;
