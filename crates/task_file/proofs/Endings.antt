@@ -11,7 +11,7 @@ use Rattle.model.specs.Task as model
 use Rattle.task_form.specs.Form.{form, asked}
 use Rattle.task_form.specs.Reading.{Named, Read}
 use Rattle.task_form.proofs.Walks.{over, form_from}
-use Rattle.task_file.specs.Views.{stage_of, Kept, Reads}
+use Rattle.task_file.specs.Views.{stage_of, Faulted, Reads}
 use Rattle.task_file.specs.declared.named.Lists.{Lists}
 use Rattle.task_file.specs.declared.form.Part as code
 use Rattle.task_file.specs.declared.form.Part.TheVariants as P
@@ -25,7 +25,7 @@ module _ (bs : List ℕ) (short : length bs ≤ 8192) (r : Result Lists Fault) w
   refuses e gives stop = let p = err_from_is_err_and r gives in rw (p.1, p.2) (form_from bs _ short stop)
 
   -- a command is refused, or memory is wanting
-  pub fails : (want : Read) (e : Fault) → IsErrAnd r (λ y. y ≡ e) → Kept want e → ((x : Refusal) → want ≡ Err x → whole ≡ Err x) → Reads (form bs) r
+  pub fails : (want : Read) (e : Fault) → IsErrAnd r (λ y. y ≡ e) → Faulted want e → ((x : Refusal) → want ≡ Err x → whole ≡ Err x) → Reads (form bs) r
   fails want (Refused x) gives took stop = refuses x gives (stop x took)
   fails want Memory gives took stop = let p = err_from_is_err_and r gives in rw (p.1, p.2) tt
 

@@ -47,15 +47,15 @@ sized n f m p = cond (up_to 16 n && (up_to 128 f && up_to 64 m)) (Ok (record { s
 abbrev pub reached : Lists → code.Part → Named × Stage
 reached l x = (named_of l, stage_of x)
 
--- the fault that keeps from what one command should answer; want of memory apart
-abbrev pub Kept : Read → Fault → Type 0
-Kept want (Refused e) = want ≡ Err e
-Kept want Memory = Unit {0}
+-- a fault in place of what one command should answer; want of memory apart
+abbrev pub Faulted : Read → Fault → Type 0
+Faulted want (Refused e) = want ≡ Err e
+Faulted want Memory = Unit {0}
 
 -- the answer to one command, which leaves the lists l
 abbrev pub Took : Lists → Read → Result code.Part Fault → Type 0
 Took l want (Ok x) = want ≡ Ok (reached l x)
-Took l want (Err e) = Kept want e
+Took l want (Err e) = Faulted want e
 
 -- the answer to a whole file; want of memory apart
 abbrev pub Reads : Result model.Task Refusal → Result Lists Fault → Type 0

@@ -84,6 +84,7 @@ impl Lists {
     // Inlined, or the part would come back through memory at every command.
     #[inline(always)]
     fn in_lists(&mut self, command: Command, place: usize) -> Result<Part, Fault>
+        ensures sizes { self.new.sizes ≡ self.old.sizes }
         ensures standing { IfOk result (λ x. stands self.new x ≡ true) }
         ensures blamed { IfErr result (Blamed place) }
         ensures memory { IfErr result (λ e. e ≢ Fault.Memory) }
@@ -107,7 +108,8 @@ impl Lists {
     // A move that is complete joins the others.
     fn add_move(&mut self, complete: Move) -> Result<(), AllocFailed<Move>>
         requires { move_fits self.old.sizes.stations self.old.sizes.fluents self.old.sizes.moves (move_of complete) ≡ true }
-        ensures { IfOk result (λ _. named_of self.new ≡ with_move (named_of self.old) (move_of complete)) }
+        ensures sizes { self.new.sizes ≡ self.old.sizes }
+        ensures joined { IfOk result (λ _. named_of self.new ≡ with_move (named_of self.old) (move_of complete)) }
     {
         self.moves.push(complete)?;
         Ok(())
@@ -116,6 +118,7 @@ impl Lists {
     // A command in a move, before its first effect.
     fn in_move(&mut self, mut current: Move, command: Command, place: usize) -> Result<Part, Fault>
         requires { stands self.old (Part.Move current) ≡ true }
+        ensures sizes { self.new.sizes ≡ self.old.sizes }
         ensures standing { IfOk result (λ x. stands self.new x ≡ true) }
         ensures blamed { IfErr result (Blamed place) }
         ensures took { Took self.new (move_takes (named_of self.old) (move_of current) command place) result }
@@ -147,6 +150,7 @@ impl Lists {
         place: usize,
     ) -> Result<Part, Fault>
         requires { stands self.old (Part.Effect current effect) ≡ true }
+        ensures sizes { self.new.sizes ≡ self.old.sizes }
         ensures standing { IfOk result (λ x. stands self.new x ≡ true) }
         ensures blamed { IfErr result (Blamed place) }
         ensures took { Took self.new (effect_takes (named_of self.old) (move_of current) (effect_of effect) command place) result }

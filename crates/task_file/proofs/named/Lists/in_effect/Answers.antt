@@ -11,7 +11,7 @@ add_move-requires c =
 
 pub returns-in_ok-add_move-in-Move-clause-took : goal.returns-in_ok-add_move-in-Move-clause-took
 returns-in_ok-add_move-in-Move-clause-took c =
-    rw (after_effect _ _ _ c.in-Move.is _ c.args.current c.args.effect c.in_ok-complete-in-Move.complete c.in_ok-complete-in-Move.ensures c.in_ok-add_move-in-Move.ensures)
+    rw (after_effect _ _ _ c.in-Move.is _ c.args.current c.args.effect c.in_ok-complete-in-Move.complete c.in_ok-complete-in-Move.ensures c.in_ok-add_move-in-Move.ensures.joined)
     c.in_lists.ensures.took
 
 pub returns-in_ok-with_effect-in-Effect-2-clause-standing : goal.returns-in_ok-with_effect-in-Effect-2-clause-standing

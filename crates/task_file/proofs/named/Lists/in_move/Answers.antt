@@ -21,4 +21,4 @@ pub returns-in-Effect-clause-took : goal.returns-in-Effect-clause-took
 returns-in-Effect-clause-took c = rw (c.in-Effect.is, c.empty.ensures) refl
 
 pub returns-in_ok-add_move-in-Move-clause-took : goal.returns-in_ok-add_move-in-Move-clause-took
-returns-in_ok-add_move-in-Move-clause-took c = rw (after_move _ _ _ c.in-Move.is _ _ c.in_ok-add_move-in-Move.ensures) c.in_lists.ensures.took
+returns-in_ok-add_move-in-Move-clause-took c = rw (after_move _ _ _ c.in-Move.is _ _ c.in_ok-add_move-in-Move.ensures.joined) c.in_lists.ensures.took
