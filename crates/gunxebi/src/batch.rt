@@ -28,8 +28,8 @@ impl From<Fault> for Unsolved {
 }
 
 // Does the plan of a request solve its task?
-fn solve(heap: Global, line: Result<&[u8], Flaw>) -> Result<(), Unsolved> {
-    let request = request::read(line?)?;
+fn solve(heap: Global, line: &Line) -> Result<(), Unsolved> {
+    let request = request::read(line.bytes()?)?;
     let task = hex::bytes(heap, request.task)?;
     let plan = hex::bytes(heap, request.plan)?;
     judge_written(heap, &task, &plan)?;
@@ -43,10 +43,10 @@ pub fn answer_all(rt: &HostRuntime) -> Result<(), Trouble> {
     let mut output = BufWriter::new(heap, rt.stdout()).map_err(|_| Trouble::Memory)?;
     let mut line = Line::new(heap);
     for _ in 0..u64::MAX {
-        let Some(read) = read_line(&mut input, &mut line).map_err(Trouble::UnreadableInput)? else {
+        if !read_line(&mut input, &mut line).map_err(Trouble::UnreadableInput)? {
             break;
-        };
-        match solve(heap, read) {
+        }
+        match solve(heap, &line) {
             Ok(()) => writeln!(output, "solves")?,
             Err(unsolved) => writeln!(output, "{unsolved}")?,
         }

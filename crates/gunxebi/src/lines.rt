@@ -1,5 +1,5 @@
 // Lines of standard input, each of which may be too long to keep.
-ghost use Rattle.std.specs.Prelude.{◌≤◌, IfOk, IfSome, length, vec_len};
+ghost use Rattle.std.specs.Prelude.{◌≤◌, IfOk, length, vec_len};
 
 use crate::flaw::Flaw;
 use crate::text::find;
@@ -27,7 +27,7 @@ impl Line {
     }
 
     // The bytes without the line's end, or why they are not kept.
-    fn read(&self) -> Result<&[u8], Flaw>
+    pub fn bytes(&self) -> Result<&[u8], Flaw>
         ensures short { IfOk result (λ bytes. length bytes.now ≤ 262144) }
     {
         match self.flaw {
@@ -82,19 +82,16 @@ fn add_held(input: &mut BufReader<Stdin>, line: &mut Line) -> io::Result<After> 
     Ok(after)
 }
 
-// Reads the next line in place of the one before. There is none at the end of the input.
-pub fn read_line<'l>(
-    input: &mut BufReader<Stdin>,
-    line: &'l mut Line,
-) -> io::Result<Option<Result<&'l [u8], Flaw>>>
-    ensures short { IfOk result (λ next. IfSome next (λ line. IfOk line (λ bytes. length bytes.now ≤ 262144))) }
+// Reads the next line in place of the one before. Is there one? There is none at the end of the input.
+pub fn read_line(input: &mut BufReader<Stdin>, line: &mut Line) -> io::Result<bool>
+    ensures short { vec_len line.new.bytes ≤ 262144 }
 {
     line.clear(None);
     for _ in 0..u64::MAX {
         match add_held(input, line)? {
             After::More => {}
-            After::LineEnd => return Ok(Some(line.read())),
-            After::InputEnd => return Ok(line.is_begun().then_some(line.read())),
+            After::LineEnd => return Ok(true),
+            After::InputEnd => return Ok(line.is_begun()),
         }
     }
     Err(io::Error::from(ErrorKind::Other))
